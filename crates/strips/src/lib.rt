@@ -14,3 +14,5 @@ pub use place::Station;
 pub use place::StationDebug;
 pub use place::StationPartialEq;
 pub use rows::RowCount;
+pub use rows::RowCountDebug;
+pub use rows::RowCountPartialEq;

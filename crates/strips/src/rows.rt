@@ -5,7 +5,7 @@ ghost use Rattle.std.specs.Options.{Cases};
 ghost use Rattle.strips.specs.Rows.{most-rows};
 
 // A count that a strip may have. There is no other, so no longer strip can be made.
-#[derive(Clone, Copy)]
+#[derive(Clone, Copy, PartialEq, Eq, Debug)]
 pub struct RowCount {
     count: usize,
     ghost few: { count ≤ most-rows },
