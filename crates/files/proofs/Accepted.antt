@@ -13,15 +13,14 @@ use Rattle.std.specs.Orderings.{Decides}
 use Rattle.std.specs.Results.{isOk}
 use Rattle.std.specs.declared.result.Result.{Result}
 use Rattle.std.specs.declared.result.Result.the-variants.{Ok, Err}
-use Rattle.strips.specs.Rows.{most-rows}
 use Rattle.files.specs.declared.fault.FileFault.{FileFault}
 use Rattle.files.specs.declared.record.Record.{Record}
 use Rattle.files.specs.declared.fault.FileFault.the-variants.{Short}
 use Rattle.files.specs.Faults.{sound, is-sound, answer}
-use Rattle.files.specs.Layout.{trailer, entries-start, count, entries, edition, spare, total-rows, mark, entry-start, entry, number, station, pile, rows, body-start, rows-before}
+use Rattle.files.specs.Layout.{trailer, entries-start, count, entries, entry-start, entry, number, station, pile, rows, body-start, rows-before}
 use Rattle.files.specs.Records.{station-number, pile-number, station-of, pile-of, record-of, Reads}
 use Rattle.files.specs.Sound.{Entry-fits, Strip-file}
-use Rattle.files.specs.Verdict.{refuse, _andThen_, trailer-verdict, least-number, fields-verdict, entry-verdict, entries-verdict, end-verdict, rest-verdict, verdict}
+use Rattle.files.specs.Verdict.{refuse, _andThen_, trailer-verdict, least-number, entry-verdict, entries-verdict, end-verdict, rest-verdict, verdict}
 use Rattle.files.proofs.Verdicts.{both-sound, sound-first, sound-from, rows-more}
 
 station-back : (n : ℕ) → n ≤ 2 → station-number (station-of n) ≡ n
@@ -163,4 +162,5 @@ module _ (bs : List ℕ) where
           is = is;
           station-named = ap (λ x. station-number (x .station)) is ∙ station-back (station (entry bs i)) (fit .station-known);
           pile-named = ap (λ x. pile-number (x .pile)) is ∙ pile-back (pile (entry bs i)) (fit .pile-known);
+          rows-few = omega (arith, ap (λ x. x .rows) is, fit .rows-few);
         }

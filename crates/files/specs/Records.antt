@@ -1,5 +1,5 @@
 -- The record that an entry's bytes write.
-use Prim.Native.Nat.{ℕ}
+use Prim.Native.Nat.{ℕ, _≤_}
 use mathlib.Core.Bool.{cond}
 use mathlib.Core.List.{List, map}
 use mathlib.Core.Path.{_≡_}
@@ -9,6 +9,7 @@ use Rattle.strips.specs.declared.place.Station.{Station}
 use Rattle.strips.specs.declared.place.Station.the-variants.{Plain, Left, Right}
 use Rattle.strips.specs.declared.place.Pile.{Pile}
 use Rattle.strips.specs.declared.place.Pile.the-variants.{Home, Away}
+use Rattle.strips.specs.Rows.{most-rows}
 use Rattle.files.specs.declared.record.Record.{Record}
 use Rattle.files.specs.Layout.{entries, entry, number, station, pile, rows, body-start, stamp}
 
@@ -39,11 +40,12 @@ record-of e = record {
   stamp = stamp e;
 }
 
--- a record is the entry's, and its station and pile are those whose numbers stand there
+-- a record is the entry's: its station and pile are those whose numbers stand there, and a strip may have its rows
 pub record Reads (e : List ℕ) (r : Record) : Type 0 where
   pub is : r ≡ record-of e
   pub station-named : station-number (r .station) ≡ station e
   pub pile-named : pile-number (r .pile) ≡ pile e
+  pub rows-few : r .rows ≤ most-rows
 
 -- the records of the first n entries
 unfoldable pub first-records : List ℕ → ℕ → List Record

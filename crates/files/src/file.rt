@@ -66,13 +66,21 @@ impl<'a> StripFile<'a> {
         &self.bytes[start..start + len]
     }
 
-    // Entry i's record.
-    pub fn entry(&self, i: usize) -> Result<Record, FileFault>
-        ensures { λ r. ⌜ Named (now (now (self .entry) .bytes)) i (Reads (entry (now (now (self .entry) .bytes)) i)) r ⌝ }
+    // Whether there is an entry i.
+    fn named(&self, i: usize) -> Result<(), FileFault>
+        ensures { λ r. ⌜ Named (now (now (self .entry) .bytes)) i (λ _. Unit {0}) r ⌝ }
     {
         if i >= self.count() {
             return Err(FileFault::NoSuchEntry { entry: i });
         }
+        Ok(())
+    }
+
+    // Entry i's record.
+    pub fn entry(&self, i: usize) -> Result<Record, FileFault>
+        ensures { λ r. ⌜ Named (now (now (self .entry) .bytes)) i (Reads (entry (now (now (self .entry) .bytes)) i)) r ⌝ }
+    {
+        self.named(i)?;
         Ok(self.record(i))
     }
 
@@ -80,9 +88,7 @@ impl<'a> StripFile<'a> {
     pub fn body(&self, i: usize) -> Result<&'a [u8], FileFault>
         ensures { λ r. ⌜ Named (now (now (self .entry) .bytes)) i (λ b. now b ≡ body (now (now (self .entry) .bytes)) i) r ⌝ }
     {
-        if i >= self.count() {
-            return Err(FileFault::NoSuchEntry { entry: i });
-        }
+        self.named(i)?;
         Ok(self.rows_of(i))
     }
 }

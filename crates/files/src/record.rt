@@ -42,7 +42,7 @@ fn pile(number: u8) -> Pile
 }
 
 // The record that an entry's 32 bytes write.
-pub fn read(entry: &[u8]) -> Record
+pub(crate) fn read(entry: &[u8]) -> Record
     requires { ⌜ length (now entry) ≡ 32 ⌝ }
     ensures { λ r. ⌜ r ≡ record-of (now (entry .entry)) ⌝ }
 {

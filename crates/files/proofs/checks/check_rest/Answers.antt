@@ -1,11 +1,11 @@
-use Prim.Native.Nat.{_+_, _*_, _≤_}
+use Prim.Native.Nat.{_+_, _*_}
 use mathlib.Core.Path.{_≡_, refl, sym, ap, _∙_}
 use native.Mathlib.Omega.{arith}
 use lib.ListN.{length}
 use Rattle.std.proofs.shelf.Results.{err-from-errBy}
-use Rattle.files.specs.Layout.{trailer, entries-start, count, entries, entry-start, entry, rows, number, rows-before}
+use Rattle.files.specs.Layout.{trailer, entries-start, count, entries, entry-start, rows, number, rows-before}
 use Rattle.files.specs.Verdict.{least-number, entries-verdict, end-verdict}
-use Rattle.files.proofs.Accepted.{trailer-few, trailer-whole}
+use Rattle.files.proofs.Accepted.{trailer-few}
 use Rattle.files.proofs.Verdicts.{refused-first, sound-first, entry-cut, fields-of, rows-more, least-more, entries-sound, entries-refused}
 use Rattle.files.proofs.checks.check_rest.Needs as need
 
