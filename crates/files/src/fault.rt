@@ -2,11 +2,9 @@
 ghost use mathlib.Core.Path.{_≡_};
 ghost use Rattle.files.specs.Faults.{told};
 use strips::StripFault;
-use strips::StripFaultDebug;
-use strips::StripFaultPartialEq;
 
 // `entry` counts the entries fully checked, or is the entry that a call named; `byte` is where the faulty field begins.
-#[derive(Clone, Copy, PartialEq, Eq, Debug)]
+#[derive(Clone, Copy)]
 pub enum FileFault {
     // A file of under 16 bytes.
     Short,

@@ -5,13 +5,9 @@ ghost use Rattle.files.specs.Records.{station-of, pile-of, record-of};
 use crate::parts::get16;
 use crate::parts::get32;
 use strips::Pile;
-use strips::PileDebug;
-use strips::PilePartialEq;
 use strips::Station;
-use strips::StationDebug;
-use strips::StationPartialEq;
 
-#[derive(Clone, Copy, PartialEq, Eq, Debug)]
+#[derive(Clone, Copy)]
 pub struct Record {
     pub number: u16,
     pub station: Station,
