@@ -3,7 +3,6 @@ use Prim.Native.Nat.{ℕ, _+_, _*_, _^_, _≤_, _<_}
 use mathlib.Core.List.{List, [], _++_, map-map}
 use mathlib.Core.Path.{_≡_, sym, ap, _∙_}
 use native.Mathlib.Omega.{arith}
-use lib.Chars.{codes}
 use lib.ListN.{length, length-append}
 use Rattle.std.specs.Iters.{counting}
 use Rattle.std.specs.Written.{decimal}
@@ -17,13 +16,17 @@ use Rattle.strips.specs.declared.place.Station.{Station}
 use Rattle.strips.specs.declared.place.Station.the-variants.{Plain, Left, Right}
 use Rattle.strips.specs.declared.place.Pile.{Pile}
 use Rattle.strips.specs.declared.place.Pile.the-variants.{Home, Away}
+use Rattle.strips.specs.Rows.{most-rows}
 use Rattle.files.specs.declared.record.Record.{Record}
 use Rattle.files.specs.Faults.{Fault, sound, refused}
 use Rattle.files.specs.Layout.{entries, entry, rows, rows-before}
 use Rattle.files.specs.Records.{record-of, first-records, records}
 use Rattle.files.specs.Sound.{Strip-file}
 use Rattle.files.specs.Verdict.{verdict}
-use Rattle.listing.specs.Listing.{station-word, pile-word, record-line, total-line, fault-line, row-sum, records-listing, listing-by, listing, most-input, Totals}
+use Rattle.listing.specs.Lengths.{longest-record, longest-total, longest-fault}
+use Rattle.listing.specs.Text.{Put}
+use Rattle.listing.proofs.Laid.{put-as, put-within}
+use Rattle.listing.specs.Listing.{station-word, pile-word, record-line, total-line, fault-line, row-sum, records-listing, refused-line, too-long-line, listing-by, listing, most-input, Totals, Lists}
 
 pub length-record-line : (r : Record) → length (record-line r) ≡ length (decimal (r .number)) + length (decimal (r .rows)) + length (station-word (r .station)) + length (pile-word (r .pile)) + 28
 unfolding record-line
@@ -46,15 +49,15 @@ pile-short : (p : Pile) → length (pile-word p) ≤ 4
 pile-short Home = omega arith
 pile-short Away = omega arith
 
-pub record-short : (r : Record) → r .number < 2 ^ 16 → r .rows ≤ 4096 → length (record-line r) ≤ 46
+pub record-short : (r : Record) → r .number < 2 ^ 16 → r .rows ≤ most-rows → length (record-line r) ≤ longest-record
 record-short r n m =
     omega (arith, length-record-line r, station-short (r .station), pile-short (r .pile), length-decimal-le 5 (r .number) (omega arith) (omega arith) (omega arith), length-decimal-le 4 (r .rows) (omega arith) (omega arith) (omega arith))
 
-pub total-short : (n s : ℕ) → n ≤ 256 → s ≤ 4096 * 256 → length (total-line n s) ≤ 25
+pub total-short : (n s : ℕ) → n ≤ 256 → s ≤ most-rows * 256 → length (total-line n s) ≤ longest-total
 total-short n s few small =
     omega (arith, length-total-line n s, length-decimal-le 3 n (omega arith) (omega arith) (omega arith), length-decimal-le 7 s (omega arith) (omega arith) (omega arith))
 
-pub fault-short : (words : List ℕ) (n e b : ℕ) → n < 2 ^ 64 → e < 2 ^ 64 → b < 2 ^ 64 → length (fault-line words n e b) ≤ length words + 74
+pub fault-short : (words : List ℕ) (n e b : ℕ) → n < 2 ^ 64 → e < 2 ^ 64 → b < 2 ^ 64 → length (fault-line words n e b) ≤ length words + longest-fault
 fault-short words n e b small-n small-e small-b =
     omega (arith, length-fault-line words n e b, length-decimal-le 20 n (omega arith) (omega arith) small-n, length-decimal-le 20 e (omega arith) (omega arith) small-e, length-decimal-le 20 b (omega arith) (omega arith) small-b)
 
@@ -88,7 +91,7 @@ lines-done bs n i s is-n is-i is-s =
     (λ j. joined record-line (first-records bs (all j)) ++ total-line (long j) ((is-s ∙ ap (λ k. row-sum (first-records bs k)) all) j))
 
 -- which lines are listed
-pub listing-long : (bs : List ℕ) → most-input < length bs → fault-line (codes "fault list ") 16 0 0 ≡ listing bs
+pub listing-long : (bs : List ℕ) → most-input < length bs → too-long-line ≡ listing bs
 unfolding listing
 listing-long bs long = grind (arith, tells)
 
@@ -96,10 +99,13 @@ listing-read : (bs : List ℕ) → length bs ≤ most-input → listing-by bs (v
 unfolding listing
 listing-read bs fits = grind (arith, tells)
 
-pub listing-refused : (bs : List ℕ) (f : Fault) → length bs ≤ most-input → refused f ≡ verdict bs → fault-line (codes "fault file ") (f .number) (f .entry) (f .byte) ≡ listing bs
+pub listing-refused : (bs : List ℕ) (f : Fault) → length bs ≤ most-input → refused f ≡ verdict bs → refused-line f ≡ listing bs
 unfolding listing-by
 listing-refused bs f fits is = ap (listing-by bs) is ∙ listing-read bs fits
 
 pub listing-sound : (bs : List ℕ) → length bs ≤ most-input → sound ≡ verdict bs → records-listing (records bs) ≡ listing bs
 unfolding listing-by
 listing-sound bs fits is = ap (listing-by bs) is ∙ listing-read bs fits
+
+pub lists : {bs before after xs : List ℕ} {r : ℕ} → xs ≡ listing bs → Put before 0 xs after r → Lists bs before after r
+lists {bs} is p = record { lines = put-as is p; within = put-within p; totals = file-totals bs }

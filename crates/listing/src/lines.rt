@@ -1,11 +1,15 @@
 // The lines of a listing, put into a place of bytes; each call answers where its line ends.
-ghost use Prim.Native.Nat.{_+_, _≤_};
+ghost use Prim.Native.Nat.{_+_, _*_, _≤_};
 ghost use lib.ListN.{length};
 ghost use mathlib.Core.Path.{_≡_};
-ghost use Rattle.listing.specs.Listing.{station-word, pile-word, record-line, total-line, fault-line};
+ghost use Rattle.files.specs.Faults.{told};
+ghost use Rattle.strips.specs.Rows.{most-rows};
+ghost use Rattle.listing.specs.Lengths.{longest-record, longest-total, longest-fault};
+ghost use Rattle.listing.specs.Listing.{station-word, pile-word, record-line, total-line, fault-line, refused-line};
 ghost use Rattle.listing.specs.Text.{Put};
 use crate::text::put;
 use crate::text::put_labelled;
+use files::FileFault;
 use files::Record;
 use strips::Pile;
 use strips::Station;
@@ -30,7 +34,7 @@ fn pile_word(pile: Pile) -> &'static [u8]
 }
 
 pub(crate) fn put_record(place: &mut [u8], at: usize, record: Record) -> usize
-    requires { ⌜ at + length (record-line «record») ≤ length (now place) ⌝ }
+    requires { ⌜ at + longest-record ≤ length (now place) ⌝ ∗ ⌜ «record» .rows ≤ most-rows ⌝ }
     ensures { λ end. ⌜ Put (now (place .entry)) at (record-line «record») (now (place .exit)) end ⌝ }
 {
     let at = put_labelled(place, at, b"strip ", record.number as usize);
@@ -43,7 +47,7 @@ pub(crate) fn put_record(place: &mut [u8], at: usize, record: Record) -> usize
 }
 
 pub(crate) fn put_total(place: &mut [u8], at: usize, entries: usize, rows: usize) -> usize
-    requires { ⌜ at + length (total-line entries rows) ≤ length (now place) ⌝ }
+    requires { ⌜ at + longest-total ≤ length (now place) ⌝ ∗ ⌜ entries ≤ 256 ⌝ ∗ ⌜ rows ≤ most-rows * 256 ⌝ }
     ensures { λ end. ⌜ Put (now (place .entry)) at (total-line entries rows) (now (place .exit)) end ⌝ }
 {
     let at = put_labelled(place, at, b"entries ", entries);
@@ -59,11 +63,20 @@ pub(crate) fn put_fault(
     entry: usize,
     byte: usize,
 ) -> usize
-    requires { ⌜ length (fault-line (now words) number entry byte) ≤ length (now place) ⌝ }
+    requires { ⌜ length (now words) + longest-fault ≤ length (now place) ⌝ }
     ensures { λ end. ⌜ Put (now (place .entry)) 0 (fault-line (now (words .entry)) number entry byte) (now (place .exit)) end ⌝ }
 {
     let at = put_labelled(place, 0, words, number as usize);
     let at = put_labelled(place, at, b" entry ", entry);
     let at = put_labelled(place, at, b" byte ", byte);
     put(place, at, b"\n")
+}
+
+// The line of a refused file.
+pub(crate) fn put_refusal(place: &mut [u8], fault: FileFault) -> usize
+    requires { ⌜ 16384 ≤ length (now place) ⌝ }
+    ensures { λ end. ⌜ Put (now (place .entry)) 0 (refused-line (told fault)) (now (place .exit)) end ⌝ }
+{
+    let number = fault.number();
+    put_fault(place, b"fault file ", number, fault.entry(), fault.byte())
 }

@@ -6,16 +6,12 @@ use Rattle.files.specs.Records.{first-records}
 use Rattle.listing.specs.Listing.{record-line}
 use Rattle.listing.specs.Text.{laid}
 use Rattle.listing.proofs.Laid.{put-put, put-as}
-use Rattle.listing.proofs.Listed.{record-short, total-short, lines-more, lines-done, rows-more}
+use Rattle.listing.proofs.Listed.{record-short, lines-more, lines-done, rows-more}
 use Rattle.listing.proofs.listing.list_file.Needs as need
 
 pub loop-i-holds : need.loop-i-holds
 unfolding first-records laid
 loop-i-holds c = (record { bytes = refl; ends = refl }, omega arith, refl, omega arith)
-
-pub list-record-so-far-requires : need.list-record-so-far-requires
-list-record-so-far-requires c κs =
-    (omega (arith, record-short (c .record-of .result) (search needs) (c .record-of .ensures .rows-few)), omega arith)
 
 pub loop-i-again : need.loop-i-again
 loop-i-again c =
@@ -27,9 +23,6 @@ loop-i-again c =
       c .list-record-so-far .ensures .counts ∙ (λ j. c .loop-i .inv .2 j + is j .rows) ∙ sym (rows-more bs (c .loop-i .i)),
       omega (arith, c .list-record-so-far .ensures .counts, c .record-of .ensures .rows-few),
     )
-
-pub put-total-requires : need.put-total-requires
-put-total-requires c κs = omega (arith, total-short (c .count-entries .result) (c .loop-i .so-far .rows) (omega arith) (omega arith))
 
 pub returns : need.returns
 returns c =
