@@ -1,0 +1,171 @@
+// The steps on one block of sixteen bytes: byte j stands in row j mod 4 and column j div 4.
+ghost use Rattle.aes.specs.Block.{addRoundKey, subBytes, invSubBytes, shiftRows, invShiftRows, mixColumns, invMixColumns, fullRound, invFullRound};
+ghost use Rattle.aes.specs.Step.{Step};
+use crate::columns::inv_mix_column;
+use crate::columns::mix_column;
+use crate::inv_sbox::inv_sub_byte;
+use crate::sbox::sub_byte;
+
+// The block XORed with a round key.
+pub fn add_round_key(s: [u8; 16], key: [u8; 16]) -> [u8; 16]
+    ensures { λ r. ⌜ Step (λ x. addRoundKey x key) (λ x. addRoundKey x key) s r ⌝ }
+{
+    [
+        s[0] ^ key[0],
+        s[1] ^ key[1],
+        s[2] ^ key[2],
+        s[3] ^ key[3],
+        s[4] ^ key[4],
+        s[5] ^ key[5],
+        s[6] ^ key[6],
+        s[7] ^ key[7],
+        s[8] ^ key[8],
+        s[9] ^ key[9],
+        s[10] ^ key[10],
+        s[11] ^ key[11],
+        s[12] ^ key[12],
+        s[13] ^ key[13],
+        s[14] ^ key[14],
+        s[15] ^ key[15],
+    ]
+}
+
+// Row r moved left by r columns.
+pub fn shift_rows(state: [u8; 16]) -> [u8; 16]
+    ensures { λ r. ⌜ Step shiftRows invShiftRows state r ⌝ }
+{
+    [
+        state[0],
+        state[5],
+        state[10],
+        state[15],
+        state[4],
+        state[9],
+        state[14],
+        state[3],
+        state[8],
+        state[13],
+        state[2],
+        state[7],
+        state[12],
+        state[1],
+        state[6],
+        state[11],
+    ]
+}
+
+// Row r moved right by r columns.
+pub fn inv_shift_rows(moved: [u8; 16]) -> [u8; 16]
+    ensures { λ r. ⌜ Step invShiftRows shiftRows moved r ⌝ }
+{
+    [
+        moved[0],
+        moved[13],
+        moved[10],
+        moved[7],
+        moved[4],
+        moved[1],
+        moved[14],
+        moved[11],
+        moved[8],
+        moved[5],
+        moved[2],
+        moved[15],
+        moved[12],
+        moved[9],
+        moved[6],
+        moved[3],
+    ]
+}
+
+// S of each byte.
+pub fn sub_bytes(s: [u8; 16]) -> [u8; 16]
+    ensures { λ r. ⌜ Step subBytes invSubBytes s r ⌝ }
+{
+    let mut r = s;
+    for b in r.iter_mut() {
+        *b = sub_byte(*b);
+    }
+    r
+}
+
+// The byte that S takes to it, for each byte.
+pub fn inv_sub_bytes(s: [u8; 16]) -> [u8; 16]
+    ensures { λ r. ⌜ Step invSubBytes subBytes s r ⌝ }
+{
+    let mut r = s;
+    for b in r.iter_mut() {
+        *b = inv_sub_byte(*b);
+    }
+    r
+}
+
+// Each column mixed.
+pub fn mix_columns(s: [u8; 16]) -> [u8; 16]
+    ensures { λ r. ⌜ Step mixColumns invMixColumns s r ⌝ }
+{
+    let a = mix_column([s[0], s[1], s[2], s[3]]);
+    let b = mix_column([s[4], s[5], s[6], s[7]]);
+    let c = mix_column([s[8], s[9], s[10], s[11]]);
+    let d = mix_column([s[12], s[13], s[14], s[15]]);
+    [
+        a[0],
+        a[1],
+        a[2],
+        a[3],
+        b[0],
+        b[1],
+        b[2],
+        b[3],
+        c[0],
+        c[1],
+        c[2],
+        c[3],
+        d[0],
+        d[1],
+        d[2],
+        d[3],
+    ]
+}
+
+// Each column mixed back.
+pub fn inv_mix_columns(s: [u8; 16]) -> [u8; 16]
+    ensures { λ r. ⌜ Step invMixColumns mixColumns s r ⌝ }
+{
+    let a = inv_mix_column([s[0], s[1], s[2], s[3]]);
+    let b = inv_mix_column([s[4], s[5], s[6], s[7]]);
+    let c = inv_mix_column([s[8], s[9], s[10], s[11]]);
+    let d = inv_mix_column([s[12], s[13], s[14], s[15]]);
+    [
+        a[0],
+        a[1],
+        a[2],
+        a[3],
+        b[0],
+        b[1],
+        b[2],
+        b[3],
+        c[0],
+        c[1],
+        c[2],
+        c[3],
+        d[0],
+        d[1],
+        d[2],
+        d[3],
+    ]
+}
+
+// A round before its key: substitute, shift, mix.
+pub fn full_round(s: [u8; 16]) -> [u8; 16]
+    ensures { λ r. ⌜ Step fullRound invFullRound s r ⌝ }
+{
+    mix_columns(shift_rows(sub_bytes(s)))
+}
+
+// A full round undone.
+pub fn inv_full_round(s: [u8; 16]) -> [u8; 16]
+    ensures { λ r. ⌜ Step invFullRound fullRound s r ⌝ }
+{
+    inv_sub_bytes(inv_shift_rows(inv_mix_columns(s)))
+}
