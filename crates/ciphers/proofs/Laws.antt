@@ -57,20 +57,20 @@ module _ (key t : List ℕ) (bk : Bytes 16 key) (bt : Bytes 8 t) where
       ∙ last-redone (ks 10) b h bs
 
   pub fork-undone : (side : Side) (b : List ℕ) → Bytes 16 b → invForkAes key side t (forkAes key side t b) ≡ b
-  unfolding forkAes invForkAes branch invBranch
+  unfolding forkAes invForkAes
   fork-undone side b h =
       let ks = subkey in
       ap (invRun ks 0 5) (keyedRun-undone ks small (start side) 5 (start side + 5) (stem ks b) (run-bytes ks small 0 5 b h))
       ∙ invRun-run ks small 0 5 b h
 
   stem-redone : (side : Side) (b : List ℕ) → Bytes 16 b → stem subkey (invForkAes key side t b) ≡ invBranch subkey side b
-  unfolding invForkAes invBranch
+  unfolding invForkAes
   stem-redone side b h =
       let ks = subkey in
       run-invRun ks small 0 5 _ (invRun-bytes ks small (start side) 5 _ (keyed-bytes ks small (start side + 5) b h))
 
   pub fork-redone : (side : Side) (b : List ℕ) → Bytes 16 b → forkAes key side t (invForkAes key side t b) ≡ b
-  unfolding forkAes branch invBranch
+  unfolding forkAes
   fork-redone side b h =
       ap (branch subkey side) (stem-redone side b h) ∙ keyedRun-redone subkey small (start side) 5 (start side + 5) b h
 

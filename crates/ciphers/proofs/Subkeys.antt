@@ -20,7 +20,6 @@ cond-byte true a h = h
 cond-byte false a h = lit< tt
 
 spread-bytes : (t : List ℕ) → Bytes 8 t → Bytes 16 (spread t)
-unfolding spread
 spread-bytes t b =
     listed-bytes 16 (λ j. cond (ltb (j % 4) 2) (at t (2 * (j / 4) + j % 4)) 0)
     (λ j h. cond-byte (ltb (j % 4) 2) (at t (2 * (j / 4) + j % 4)) (b .1 (2 * (j / 4) + j % 4)))
@@ -30,7 +29,6 @@ abbrev pub Small : (ℕ → List ℕ) → Type 0
 Small ks = (i j : ℕ) → at (ks i) j < 256
 
 pub tweakedKey-small : (key t : List ℕ) → Bytes 16 key → Bytes 8 t → Small (tweakedKey key t)
-unfolding tweakedKey
 tweakedKey-small key t bk bt i =
     xored-bytes 16 (roundKey key i) (spread t) (roundKey-bytes key bk i .1) (spread-bytes t bt .1) .1
 
@@ -38,7 +36,7 @@ pub zeroTweak-bytes : Bytes 8 zeroTweak
 zeroTweak-bytes = listed-bytes 8 (λ j. 0) (λ j h. lit< tt)
 
 pub tweakedKey-zero : (key : List ℕ) → Bytes 16 key → (i : ℕ) → tweakedKey key zeroTweak i ≡ roundKey key i
-unfolding tweakedKey xored spread
+unfolding xored
 tweakedKey-zero key bk i =
     let r = roundKey key i in
     same-table 16 (λ j. bitXor (at r j) (at (replicate 16 0) j)) (at r)

@@ -29,10 +29,10 @@ start Left = 5
 start Right = 11
 
 -- a branch: five rounds, all of which mix, and a last subkey
-unfoldable pub branch : (ℕ → List ℕ) → Side → List ℕ → List ℕ
+abbrev pub branch : (ℕ → List ℕ) → Side → List ℕ → List ℕ
 branch ks side s = addRoundKey (run ks (start side) 5 s) (ks (start side + 5))
 
-unfoldable pub invBranch : (ℕ → List ℕ) → Side → List ℕ → List ℕ
+abbrev pub invBranch : (ℕ → List ℕ) → Side → List ℕ → List ℕ
 invBranch ks side s = invRun ks (start side) 5 (addRoundKey s (ks (start side + 5)))
 
 -- the image of a block on a side, and the block of an image

@@ -39,6 +39,32 @@ fn inv_round(keys: &KeySet, i: usize, s: [u8; 16]) -> [u8; 16]
     inv_mix_columns(add_round_key(inv_sub_bytes(inv_shift_rows(s)), round_key(keys, i)))
 }
 
+// The whole cipher.
+fn cipher(keys: &KeySet, block: [u8; 16]) -> [u8; 16]
+    ensures made { λ r. ⌜ Step (aesOf (keyOf (now (keys .entry)))) (invAes (keyOf (now (keys .entry)))) block r ⌝ }
+    ensures untweaked { λ r. ⌜ r ≡ kiasu (keyOf (now (keys .entry))) zeroTweak block ⌝ }
+{
+    let mut s = add_round_key(block, round_key(keys, 0));
+    for i in 1..10 {
+        let next = round(keys, i, s);
+        s = next;
+    }
+    add_round_key(shift_rows(sub_bytes(s)), round_key(keys, 10))
+}
+
+// The whole inverse.
+fn inv_cipher(keys: &KeySet, block: [u8; 16]) -> [u8; 16]
+    ensures made { λ r. ⌜ Step (invAes (keyOf (now (keys .entry)))) (aesOf (keyOf (now (keys .entry)))) block r ⌝ }
+    ensures untweaked { λ r. ⌜ r ≡ invKiasu (keyOf (now (keys .entry))) zeroTweak block ⌝ }
+{
+    let mut s = add_round_key(block, round_key(keys, 10));
+    for i in (1..10).rev() {
+        let next = inv_round(keys, i, s);
+        s = next;
+    }
+    add_round_key(inv_sub_bytes(inv_shift_rows(s)), round_key(keys, 0))
+}
+
 impl Aes128 {
     pub fn new(key: [u8; 16]) -> Self
         ensures { λ r. ⌜ keyOf (r .keys) ≡ key ⌝ }
@@ -48,27 +74,19 @@ impl Aes128 {
         }
     }
 
+    // The block enciphered, which KIASU-BC does under the zero tweak too.
     pub fn encrypt(&self, block: [u8; 16]) -> [u8; 16]
-        ensures cipher { λ r. ⌜ Step (aesOf (keyOf (now (self .entry) .keys))) (invAes (keyOf (now (self .entry) .keys))) block r ⌝ }
+        ensures made { λ r. ⌜ Step (aesOf (keyOf (now (self .entry) .keys))) (invAes (keyOf (now (self .entry) .keys))) block r ⌝ }
         ensures untweaked { λ r. ⌜ r ≡ kiasu (keyOf (now (self .entry) .keys)) zeroTweak block ⌝ }
     {
-        let mut s = add_round_key(block, round_key(&self.keys, 0));
-        for i in 1..10 {
-            let next = round(&self.keys, i, s);
-            s = next;
-        }
-        add_round_key(shift_rows(sub_bytes(s)), round_key(&self.keys, 10))
+        cipher(&self.keys, block)
     }
 
+    // The block whose encryption this is.
     pub fn decrypt(&self, block: [u8; 16]) -> [u8; 16]
-        ensures cipher { λ r. ⌜ Step (invAes (keyOf (now (self .entry) .keys))) (aesOf (keyOf (now (self .entry) .keys))) block r ⌝ }
+        ensures made { λ r. ⌜ Step (invAes (keyOf (now (self .entry) .keys))) (aesOf (keyOf (now (self .entry) .keys))) block r ⌝ }
         ensures untweaked { λ r. ⌜ r ≡ invKiasu (keyOf (now (self .entry) .keys)) zeroTweak block ⌝ }
     {
-        let mut s = add_round_key(block, round_key(&self.keys, 10));
-        for i in (1..10).rev() {
-            let next = inv_round(&self.keys, i, s);
-            s = next;
-        }
-        add_round_key(inv_sub_bytes(inv_shift_rows(s)), round_key(&self.keys, 0))
+        inv_cipher(&self.keys, block)
     }
 }

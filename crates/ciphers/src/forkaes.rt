@@ -28,6 +28,52 @@ fn start(side: Side) -> usize
     }
 }
 
+// A side's branch, from the stem's result.
+fn branch(keys: &KeySet, side: Side, tweak: [u8; 8], stem: [u8; 16]) -> [u8; 16]
+    ensures { λ r. ⌜ r ≡ branchOf (tweakedKey (keyOf (now (keys .entry))) tweak) side stem ⌝ }
+{
+    let at = start(side);
+    let s = rounds(keys, tweak, at, 5, stem);
+    add_round_key(s, tweaked_key(keys, tweak, at + 5))
+}
+
+// The stem's result, from a side's image.
+fn inv_branch(keys: &KeySet, side: Side, tweak: [u8; 8], image: [u8; 16]) -> [u8; 16]
+    ensures { λ r. ⌜ r ≡ invBranch (tweakedKey (keyOf (now (keys .entry))) tweak) side image ⌝ }
+{
+    let at = start(side);
+    let s = add_round_key(image, tweaked_key(keys, tweak, at + 5));
+    inv_rounds(keys, tweak, at, 5, s)
+}
+
+// Both branches from one stem.
+fn images(keys: &KeySet, tweak: [u8; 8], block: [u8; 16]) -> ([u8; 16], [u8; 16])
+    ensures left { λ r. ⌜ Step (forkAesOf (keyOf (now (keys .entry))) Left tweak) (invForkAes (keyOf (now (keys .entry))) Left tweak) block (r .0) ⌝ }
+    ensures right { λ r. ⌜ Step (forkAesOf (keyOf (now (keys .entry))) Right tweak) (invForkAes (keyOf (now (keys .entry))) Right tweak) block (r .1) ⌝ }
+{
+    let stem = rounds(keys, tweak, 0, 5, block);
+    (
+        branch(keys, Side::Left, tweak, stem),
+        branch(keys, Side::Right, tweak, stem),
+    )
+}
+
+// A side's branch and then the stem, undone.
+fn origin(keys: &KeySet, side: Side, tweak: [u8; 8], image: [u8; 16]) -> [u8; 16]
+    ensures { λ r. ⌜ Step (invForkAes (keyOf (now (keys .entry))) side tweak) (forkAesOf (keyOf (now (keys .entry))) side tweak) image r ⌝ }
+{
+    let stem = inv_branch(keys, side, tweak, image);
+    inv_rounds(keys, tweak, 0, 5, stem)
+}
+
+// From branch to branch, without the stem.
+fn crossed(keys: &KeySet, side: Side, tweak: [u8; 8], image: [u8; 16]) -> [u8; 16]
+    ensures { λ r. ⌜ r ≡ forkAesOf (keyOf (now (keys .entry))) (other side) tweak (invForkAes (keyOf (now (keys .entry))) side tweak image) ⌝ }
+{
+    let stem = inv_branch(keys, side, tweak, image);
+    branch(keys, side.other(), tweak, stem)
+}
+
 impl ForkAes {
     pub fn new(key: [u8; 16]) -> Self
         ensures { λ r. ⌜ keyOf (r .keys) ≡ key ⌝ }
@@ -37,49 +83,25 @@ impl ForkAes {
         }
     }
 
-    // A side's branch, from the stem's result.
-    fn branch(&self, side: Side, tweak: [u8; 8], stem: [u8; 16]) -> [u8; 16]
-        ensures { λ r. ⌜ r ≡ branchOf (tweakedKey (keyOf (now (self .entry) .keys)) tweak) side stem ⌝ }
-    {
-        let at = start(side);
-        let s = rounds(&self.keys, tweak, at, 5, stem);
-        add_round_key(s, tweaked_key(&self.keys, tweak, at + 5))
-    }
-
-    // The stem's result, from a side's image.
-    fn inv_branch(&self, side: Side, tweak: [u8; 8], image: [u8; 16]) -> [u8; 16]
-        ensures { λ r. ⌜ r ≡ invBranch (tweakedKey (keyOf (now (self .entry) .keys)) tweak) side image ⌝ }
-    {
-        let at = start(side);
-        let s = add_round_key(image, tweaked_key(&self.keys, tweak, at + 5));
-        inv_rounds(&self.keys, tweak, at, 5, s)
-    }
-
     // Both images of the block, left first.
     pub fn fork(&self, tweak: [u8; 8], block: [u8; 16]) -> ([u8; 16], [u8; 16])
         ensures left { λ r. ⌜ Step (forkAesOf (keyOf (now (self .entry) .keys)) Left tweak) (invForkAes (keyOf (now (self .entry) .keys)) Left tweak) block (r .0) ⌝ }
         ensures right { λ r. ⌜ Step (forkAesOf (keyOf (now (self .entry) .keys)) Right tweak) (invForkAes (keyOf (now (self .entry) .keys)) Right tweak) block (r .1) ⌝ }
     {
-        let stem = rounds(&self.keys, tweak, 0, 5, block);
-        (
-            self.branch(Side::Left, tweak, stem),
-            self.branch(Side::Right, tweak, stem),
-        )
+        images(&self.keys, tweak, block)
     }
 
     // The block whose image on that side this is.
     pub fn back(&self, side: Side, tweak: [u8; 8], image: [u8; 16]) -> [u8; 16]
         ensures { λ r. ⌜ Step (invForkAes (keyOf (now (self .entry) .keys)) side tweak) (forkAesOf (keyOf (now (self .entry) .keys)) side tweak) image r ⌝ }
     {
-        let stem = self.inv_branch(side, tweak, image);
-        inv_rounds(&self.keys, tweak, 0, 5, stem)
+        origin(&self.keys, side, tweak, image)
     }
 
     // The other side's image of that block.
     pub fn cross(&self, side: Side, tweak: [u8; 8], image: [u8; 16]) -> [u8; 16]
         ensures { λ r. ⌜ r ≡ forkAesOf (keyOf (now (self .entry) .keys)) (other side) tweak (invForkAes (keyOf (now (self .entry) .keys)) side tweak image) ⌝ }
     {
-        let stem = self.inv_branch(side, tweak, image);
-        self.branch(side.other(), tweak, stem)
+        crossed(&self.keys, side, tweak, image)
     }
 }
