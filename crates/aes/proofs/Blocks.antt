@@ -91,15 +91,12 @@ columns-undone n m u s b =
 -- ---- a full round
 
 pub fullRound-bytes : (s : List ℕ) → Bytes 16 s → Bytes 16 (fullRound s)
-unfolding fullRound
 fullRound-bytes s b = columns-bytes mix _ (shiftRows-bytes _ (subBytes-bytes s b))
 
 pub invFullRound-bytes : (s : List ℕ) → Bytes 16 s → Bytes 16 (invFullRound s)
-unfolding invFullRound
 invFullRound-bytes s b = invSubBytes-bytes _ (invShiftRows-bytes _ (columns-bytes invMix s b))
 
 pub invFullRound-fullRound : (s : List ℕ) → Bytes 16 s → invFullRound (fullRound s) ≡ s
-unfolding fullRound invFullRound
 invFullRound-fullRound s b =
     let b1 = subBytes-bytes s b in
     let b2 = shiftRows-bytes (subBytes s) b1 in
@@ -108,7 +105,6 @@ invFullRound-fullRound s b =
     ∙ invSubBytes-subBytes s b
 
 pub fullRound-invFullRound : (s : List ℕ) → Bytes 16 s → fullRound (invFullRound s) ≡ s
-unfolding fullRound invFullRound
 fullRound-invFullRound s b =
     let b1 = columns-bytes invMix s b in
     let b2 = invShiftRows-bytes (columns invMix s) b1 in

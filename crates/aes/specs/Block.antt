@@ -80,8 +80,8 @@ abbrev pub invMixColumns : List ℕ → List ℕ
 invMixColumns s = columns invMix s
 
 -- a round before its key, and that undone
-unfoldable pub fullRound : List ℕ → List ℕ
+abbrev pub fullRound : List ℕ → List ℕ
 fullRound s = mixColumns (shiftRows (subBytes s))
 
-unfoldable pub invFullRound : List ℕ → List ℕ
+abbrev pub invFullRound : List ℕ → List ℕ
 invFullRound s = invSubBytes (invShiftRows (invMixColumns s))

@@ -1,4 +1,5 @@
 // The steps on one block of sixteen bytes: byte j stands in row j mod 4 and column j div 4.
+ghost use mathlib.Core.Path.{_≡_};
 ghost use Rattle.aes.specs.Block.{addRoundKey, subBytes, invSubBytes, shiftRows, invShiftRows, mixColumns, invMixColumns, fullRound, invFullRound};
 ghost use Rattle.aes.specs.Step.{Step};
 use crate::columns::inv_mix_column;
@@ -8,7 +9,7 @@ use crate::sbox::sub_byte;
 
 // The block XORed with a round key.
 pub fn add_round_key(s: [u8; 16], key: [u8; 16]) -> [u8; 16]
-    ensures { λ r. ⌜ Step (λ x. addRoundKey x key) (λ x. addRoundKey x key) s r ⌝ }
+    ensures { λ r. ⌜ r ≡ addRoundKey s key ⌝ }
 {
     [
         s[0] ^ key[0],
@@ -158,14 +159,14 @@ pub fn inv_mix_columns(s: [u8; 16]) -> [u8; 16]
 
 // A round before its key: substitute, shift, mix.
 pub fn full_round(s: [u8; 16]) -> [u8; 16]
-    ensures { λ r. ⌜ Step fullRound invFullRound s r ⌝ }
+    ensures { λ r. ⌜ r ≡ fullRound s ⌝ }
 {
     mix_columns(shift_rows(sub_bytes(s)))
 }
 
 // A full round undone.
 pub fn inv_full_round(s: [u8; 16]) -> [u8; 16]
-    ensures { λ r. ⌜ Step invFullRound fullRound s r ⌝ }
+    ensures { λ r. ⌜ r ≡ invFullRound s ⌝ }
 {
     inv_sub_bytes(inv_shift_rows(inv_mix_columns(s)))
 }

@@ -24,13 +24,13 @@ module _ (ks : ℕ → List ℕ) where
 
   -- the rounds of KIASU-BC, regrouped: each subkey goes before a full round, and one is left
   pub kiasuRounds-run : (n : ℕ) (s : List ℕ) → kiasuRounds ks n (addRoundKey s (ks 0)) ≡ addRoundKey (run ks 0 n s) (ks n)
-  unfolding kiasuRounds run fullRound
+  unfolding kiasuRounds run
   kiasuRounds-run zero s = refl
   kiasuRounds-run (suc n) s =
       ap (λ x. addRoundKey (fullRound x) (ks (suc n))) (kiasuRounds-run n s ∙ ap (λ i. addRoundKey (run ks 0 n s) (ks i)) (sym (zero-add n)))
 
   pub invKiasuRounds-run : (n : ℕ) (s : List ℕ) → addRoundKey (invKiasuRounds ks n s) (ks 0) ≡ invRun ks 0 n (addRoundKey s (ks n))
-  unfolding invKiasuRounds invRun invFullRound
+  unfolding invKiasuRounds invRun
   invKiasuRounds-run zero s = refl
   invKiasuRounds-run (suc n) s =
       invKiasuRounds-run n (invFullRound (addRoundKey s (ks (suc n))))

@@ -14,7 +14,7 @@ use Rattle.ciphers.proofs.Subkeys.{tweakedKey-zero, zeroTweak-bytes}
 
 -- one round more of the loops
 pub aesRounds-more : (key : List ℕ) (i : ℕ) (s : List ℕ) → 1 ≤ i → aesRounds key (i + 1 - 1) s ≡ addRoundKey (fullRound (aesRounds key (i - 1) s)) (roundKey key i)
-unfolding aesRounds fullRound
+unfolding aesRounds
 aesRounds-more key i s h =
     let e : i + 1 - 1 ≡ suc (i - 1) = omega arith in
     let f : suc (i - 1) ≡ i = omega arith in
