@@ -1,10 +1,8 @@
 -- Each step on a block keeps it a block, and is undone by its inverse.
 -- Assumes nothing.
-use mathlib.Core.Path.{_≡_, refl, sym, ap, ap₂, _∙_}
-use mathlib.Core.List.{List, [], _++_}
+use mathlib.Core.Path.{_≡_, sym, ap, ap₂, _∙_}
+use mathlib.Core.List.{List, _++_}
 use Prim.Native.Nat.{ℕ, _+_, _*_, _/_, _%_, _<_}
-use native.Mathlib.Omega.{arith}
-use lib.Dec.{lit<}
 use lib.Bits.{bitXor, xor-lt}
 use Rattle.aes.specs.Field.{S, invS}
 use Rattle.aes.specs.Block.{Bytes, at, listed, xored, subBytes, invSubBytes, shiftRows, invShiftRows, column, quarter, columns, mix, invMix, fullRound, invFullRound}
@@ -75,7 +73,7 @@ shiftRows-invShiftRows s b = sym (relisted 16 s b)
 quarter-bytes : (s : List ℕ) → Bytes 16 s → (c : ℕ) → Bytes 4 (quarter s c)
 quarter-bytes s b c = listed-bytes 4 (λ i. at s (4 * c + i)) (λ i l. b .1 (4 * c + i))
 
-pub columns-bytes : (m s : List ℕ) → Bytes 16 s → Bytes 16 (columns m s)
+columns-bytes : (m s : List ℕ) → Bytes 16 s → Bytes 16 (columns m s)
 unfolding columns
 columns-bytes m s b =
     listed-bytes 16 (λ j. at (column m (quarter s (j / 4))) (j % 4))

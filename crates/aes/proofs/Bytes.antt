@@ -1,18 +1,18 @@
 -- Facts about all 256 bytes, each by one computed test.
 -- Assumes nothing.
 use mathlib.Core.Path.{_≡_, refl, sym, ap, _∙_}
-use mathlib.Core.Bool.{true, cond}
+use mathlib.Core.Bool.{cond}
 use mathlib.Core.Logic.{_≢_, ⊎-elim}
 use Prim.Native.Nat.{ℕ, _^_, _<_}
 use native.Mathlib.Nat.{zero-mul}
 use native.Mathlib.Omega.{arith}
-use lib.Dec.{eqb, ltb}
-use borrow.Author.Tests.{ltb-true, ne-eqb}
+use lib.Dec.{eqb}
+use borrow.Author.Tests.{ne-eqb}
 use Rattle.std.proofs.shelf.Tests.{cases-eq}
 use Rattle.aes.specs.Field.{doubled, partial, product, power, inverse, Inverses, S, invS}
 use Rattle.aes.specs.Block.{listed}
 use Rattle.aes.proofs.Linear.{by-bits, product-linear}
-use Rattle.aes.proofs.Table.{every}
+use Rattle.aes.proofs.Table.{every, all-small}
 
 inverse-rule : (b : ℕ) → b < 256 → product b (inverse b) ≡ cond (eqb b 0) 0 1
 unfolding doubled partial product power inverse
@@ -66,16 +66,10 @@ pub S-invS : (b : ℕ) → b < 256 → S (invS b) ≡ b
 unfolding doubled partial product power inverse S invS
 S-invS = every 256 (λ b. S (invS b)) (λ b. b) refl
 
-S-small : (b : ℕ) → b < 256 → ltb (S b) 256 ≡ true
-unfolding doubled partial product power inverse S
-S-small = every 256 (λ b. ltb (S b) 256) (λ b. true) refl
-
 pub S-byte : (b : ℕ) → b < 256 → S b < 256
-S-byte b h = ltb-true (S b) 256 (S-small b h)
-
-invS-small : (b : ℕ) → b < 256 → ltb (invS b) 256 ≡ true
-unfolding doubled partial product power inverse invS
-invS-small = every 256 (λ b. ltb (invS b) 256) (λ b. true) refl
+unfolding doubled partial product power inverse S
+S-byte = all-small 256 S refl
 
 pub invS-byte : (b : ℕ) → b < 256 → invS b < 256
-invS-byte b h = ltb-true (invS b) 256 (invS-small b h)
+unfolding doubled partial product power inverse invS
+invS-byte = all-small 256 invS refl

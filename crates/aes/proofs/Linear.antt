@@ -60,7 +60,7 @@ digit-linear k zero (suc (suc e)) h i = absurd (omega arith)
 digit-linear k (suc zero) (suc (suc e)) h i = absurd (omega arith)
 digit-linear k (suc (suc d)) e h i = absurd (omega arith)
 
-pub doubled-linear : (a b : ℕ) → doubled (bitXor a b) ≡ bitXor (doubled a) (doubled b)
+doubled-linear : (a b : ℕ) → doubled (bitXor a b) ≡ bitXor (doubled a) (doubled b)
 unfolding doubled
 doubled-linear a b =
     let low : bitXor a b % 128 * 2 ≡ bitXor (a % 128 * 2) (b % 128 * 2) =
@@ -88,11 +88,11 @@ pub product-linear : (m a b : ℕ) → product m (bitXor a b) ≡ bitXor (produc
 unfolding product
 product-linear m a b = partial-linear 8 m a b
 
-pub doubled-byte : (b : ℕ) → doubled b < 256
+doubled-byte : (b : ℕ) → doubled b < 256
 unfolding doubled
 doubled-byte b = xor-lt 8 (b % 128 * 2) (b / 128 % 2 * 0x1B) (omega arith) (omega arith)
 
-pub digit-byte : (d b : ℕ) → d < 2 → b < 256 → d * b < 256
+digit-byte : (d b : ℕ) → d < 2 → b < 256 → d * b < 256
 digit-byte zero b h i = rw zero-mul (omega arith)
 digit-byte (suc zero) b h i = rw one-mul i
 digit-byte (suc (suc d)) b h i = absurd (omega arith)

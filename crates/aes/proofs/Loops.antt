@@ -1,9 +1,10 @@
 -- A loop that writes f k at each place k of a list, one after the other.
 -- Assumes nothing.
-use mathlib.Core.Path.{_≡_, refl, _∙_}
+use mathlib.Core.Path.{_≡_, refl, ap, _∙_}
 use mathlib.Core.Logic.{_≢_}
 use mathlib.Core.List.{List}
 use Prim.Native.Nat.{ℕ, _+_, _<_, _≤_}
+use native.Mathlib.Nat.{le-refl}
 use native.Mathlib.Omega.{arith}
 use lib.ListN.{length, set}
 use borrow.Author.Count.{below-more}
@@ -32,3 +33,18 @@ module _ (n : ℕ) (f : ℕ → ℕ) (old new : List ℕ) (i : ℕ) (w : Written
 
   pub written-all : n ≤ i → new ≡ listed n f
   written-all h = fill-by-all f new n 0 (w .0) (λ k l. w .1 k (omega arith))
+
+-- the same for a loop that puts f of the entry in the place of each of sixteen
+abbrev pub Replaced : (ℕ → ℕ) → List ℕ → List ℕ → ℕ → Type 0
+Replaced f old new i = Written 16 (λ k. f (at old k)) old new i
+
+module _ (f : ℕ → ℕ) (old : List ℕ) where
+  pub replaced-none : length old ≡ 16 → Replaced f old old 0
+  replaced-none e = written-none 16 (λ k. f (at old k)) old e
+
+  module _ (new : List ℕ) (i : ℕ) (w : Replaced f old new i) where
+    pub replaced-more : i < 16 → (v : ℕ) → v ≡ f (at new i) → Replaced f old (set new i v) (i + 1)
+    replaced-more h v e = written-more 16 (λ k. f (at old k)) old new i w h v (e ∙ ap f (w .2 i (le-refl i)))
+
+    pub replaced-all : 16 ≤ i → new ≡ listed 16 (λ k. f (at old k))
+    replaced-all h = written-all 16 (λ k. f (at old k)) old new i w h

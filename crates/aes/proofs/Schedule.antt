@@ -1,16 +1,13 @@
 -- The round keys of a key, and the loop that makes them.
 -- Assumes nothing.
-use mathlib.Core.Path.{_≡_, refl, sym, subst, ap, ap₂, _∙_}
-use mathlib.Core.Bool.{true}
+use mathlib.Core.Path.{_≡_, refl, sym, subst, ap, _∙_}
 use mathlib.Core.Logic.{⊎-elim}
 use mathlib.Core.List.{List, [], map}
 use Prim.Native.Nat.{ℕ, zero, suc, _+_, _-_, _<_, _≤_}
 use native.Mathlib.Omega.{arith}
 use native.Mathlib.Numerals.{add-one}
 use lib.Bits.{bitXor, xor-lt}
-use lib.Dec.{ltb}
 use lib.ListN.{length, getD, set}
-use borrow.Author.Tests.{ltb-true}
 use Rattle.std.proofs.shelf.Lists.{length-set, length-map, map-set, getD-map, getD-set-same, getD-set-other}
 use Rattle.std.proofs.shelf.Tests.{cases-eq}
 use Rattle.std.proofs.shelf.Counted.{fill-by-all}
@@ -18,7 +15,7 @@ use Rattle.aes.specs.Field.{doubled, S}
 use Rattle.aes.specs.Block.{Bytes, at, listed}
 use Rattle.aes.specs.Keys.{roundConstants, Doubling, keyByte, nextKey, roundKey, schedule, row, Scheduled}
 use Rattle.aes.proofs.Bytes.{S-byte}
-use Rattle.aes.proofs.Table.{entry, every, listed-bytes}
+use Rattle.aes.proofs.Table.{entry, every, all-small, listed-bytes}
 
 pub keyByte-more : (k : List ℕ) (c j : ℕ) → 4 ≤ j → keyByte k c j ≡ bitXor (at k j) (keyByte k c (j - 4))
 unfolding keyByte
@@ -32,7 +29,7 @@ abbrev pub Keyed : List ℕ → List (List ℕ) → ℕ → Type 0
 Keyed key rows i = (length rows ≡ 17) × ((k : ℕ) → k ≤ i → row rows k ≡ roundKey key k)
 
 module _ (key : List ℕ) (rows : List (List ℕ)) (i : ℕ) (w : Keyed key rows i) where
-  pub keyed-more : i < 16 → (new : List ℕ) → new ≡ nextKey (row rows i) (at roundConstants i) → Keyed key (set rows (i + 1) new) (i + 1)
+  keyed-more : i < 16 → (new : List ℕ) → new ≡ nextKey (row rows i) (at roundConstants i) → Keyed key (set rows (i + 1) new) (i + 1)
   unfolding roundKey
   keyed-more h new e =
       let l : i + 1 < length rows = rw (w .0) (omega arith) in
@@ -88,9 +85,7 @@ keyByte-byte k b c h (suc (suc (suc (suc j)))) =
     xor-lt 8 (at k (j + 4)) (keyByte k c j) (b (j + 4)) (keyByte-byte k b c h j)
 
 constant-bytes : Bytes 16 (listed 16 (at roundConstants))
-constant-bytes =
-    listed-bytes 16 (at roundConstants)
-    (λ i h. ltb-true (at roundConstants i) 256 (every 16 (λ i. ltb (at roundConstants i) 256) (λ i. true) refl i h))
+constant-bytes = listed-bytes 16 (at roundConstants) (all-small 16 (at roundConstants) refl)
 
 pub roundKey-bytes : (key : List ℕ) → Bytes 16 key → (i : ℕ) → Bytes 16 (roundKey key i)
 unfolding roundKey nextKey

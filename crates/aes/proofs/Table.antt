@@ -2,12 +2,14 @@
 -- one computed test: antt computes the list of a function and compares it, and these lemmas give the fact at each place.
 -- Assumes nothing.
 use mathlib.Core.Path.{_≡_, refl, sym, ap, _∙_}
+use mathlib.Core.Bool.{true}
 use mathlib.Core.List.{List, map}
 use mathlib.Core.Logic.{⊎-elim}
 use Prim.Native.Nat.{ℕ, _<_, _≤_}
 use native.Mathlib.Nat.{zero-add}
-use lib.Dec.{lit<}
-use lib.ListN.{length, getD}
+use lib.Dec.{lit<, ltb}
+use lib.ListN.{getD}
+use borrow.Author.Tests.{ltb-true}
 use Rattle.std.specs.Iters.{counting}
 use Rattle.std.proofs.shelf.Counted.{getD-map-counting, fill-by-all, length-map-counting}
 use Rattle.std.proofs.shelf.Lists.{getD-past}
@@ -27,6 +29,10 @@ module _ {X : Type 0} where
   pub same-table : (n : ℕ) (f g : ℕ → X) → ((k : ℕ) → k < n → f k ≡ g k) → map f (counting 0 n) ≡ map g (counting 0 n)
   same-table n f g e =
       fill-by-all g (map f (counting 0 n)) n (f 0) (length-map-counting f 0 n) (λ k h. entry f n k (f 0) h ∙ e k h)
+
+-- a function whose values below n are bytes, by one test
+pub all-small : (n : ℕ) (f : ℕ → ℕ) → map (λ k. ltb (f k) 256) (counting 0 n) ≡ map (λ k. true) (counting 0 n) → (k : ℕ) → k < n → f k < 256
+all-small n f e k h = ltb-true (f k) 256 (every n (λ k. ltb (f k) 256) (λ k. true) e k h)
 
 -- a list of bytes is the list of its entries
 pub relisted : (n : ℕ) (s : List ℕ) → Bytes n s → s ≡ listed n (at s)

@@ -1,7 +1,7 @@
--- The steps on a block of sixteen bytes: byte j stands in row j mod 4 and column j div 4.
+-- The steps on a block of sixteen bytes. Place j is row j mod 4 of column j div 4.
 -- FIPS 197: "The State", "SHIFTROWS()", "MIXCOLUMNS()", "ADDROUNDKEY()" and the sections on their inverses.
 -- Assumes nothing.
-use Prim.Native.Nat.{ℕ, _+_, _-_, _*_, _/_, _%_, _<_}
+use Prim.Native.Nat.{ℕ, zero, suc, _+_, _-_, _*_, _/_, _%_, _<_}
 use mathlib.Core.Path.{_≡_}
 use mathlib.Core.List.{List, [], _∷_, map}
 use lib.ListN.{length, getD}
@@ -63,9 +63,20 @@ invMix = 0x0E ∷ 0x0B ∷ 0x0D ∷ 0x09 ∷ []
 abbrev pub quarter : List ℕ → ℕ → List ℕ
 quarter s c = listed 4 λ i. at s (4 * c + i)
 
+-- the block whose column c is f c
+abbrev pub joined : (ℕ → List ℕ) → List ℕ
+joined f = listed 16 λ j. at (f (j / 4)) (j % 4)
+
+-- one of four lists, by its number
+abbrev pub four : List ℕ → List ℕ → List ℕ → List ℕ → ℕ → List ℕ
+four a b c d zero = a
+four a b c d (suc zero) = b
+four a b c d (suc (suc zero)) = c
+four a b c d (suc (suc (suc n))) = d
+
 -- each column of a block times the matrix
 unfoldable pub columns : List ℕ → List ℕ → List ℕ
-columns m s = listed 16 λ j. at (column m (quarter s (j / 4))) (j % 4)
+columns m s = joined λ c. column m (quarter s c)
 
 abbrev pub mixColumn : List ℕ → List ℕ
 mixColumn v = column mix v

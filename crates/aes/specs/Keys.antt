@@ -1,4 +1,4 @@
--- Round constants, round keys, and the tweak in a round key.
+-- Round constants and round keys.
 -- FIPS 197: "KEYEXPANSION()". Assumes nothing.
 use Prim.Native.Nat.{ℕ, zero, suc, _+_, _<_}
 use mathlib.Core.Path.{_≡_}

@@ -1,6 +1,6 @@
-// The steps on one block of sixteen bytes: byte j stands in row j mod 4 and column j div 4.
+// The steps on one block of sixteen bytes, which fill its columns one after the other.
 ghost use mathlib.Core.Path.{_≡_};
-ghost use Rattle.aes.specs.Block.{addRoundKey, subBytes, invSubBytes, shiftRows, invShiftRows, mixColumns, invMixColumns, fullRound, invFullRound};
+ghost use Rattle.aes.specs.Block.{addRoundKey, subBytes, invSubBytes, shiftRows, invShiftRows, four, joined, mixColumns, invMixColumns, fullRound, invFullRound};
 ghost use Rattle.aes.specs.Step.{Step};
 use crate::columns::inv_mix_column;
 use crate::columns::mix_column;
@@ -11,24 +11,11 @@ use crate::sbox::sub_byte;
 pub fn add_round_key(s: [u8; 16], key: [u8; 16]) -> [u8; 16]
     ensures { λ r. ⌜ r ≡ addRoundKey s key ⌝ }
 {
-    [
-        s[0] ^ key[0],
-        s[1] ^ key[1],
-        s[2] ^ key[2],
-        s[3] ^ key[3],
-        s[4] ^ key[4],
-        s[5] ^ key[5],
-        s[6] ^ key[6],
-        s[7] ^ key[7],
-        s[8] ^ key[8],
-        s[9] ^ key[9],
-        s[10] ^ key[10],
-        s[11] ^ key[11],
-        s[12] ^ key[12],
-        s[13] ^ key[13],
-        s[14] ^ key[14],
-        s[15] ^ key[15],
-    ]
+    let mut r = s;
+    for j in 0..16 {
+        r[j] = s[j] ^ key[j];
+    }
+    r
 }
 
 // Row r moved left by r columns.
@@ -101,14 +88,10 @@ pub fn inv_sub_bytes(s: [u8; 16]) -> [u8; 16]
     r
 }
 
-// Each column mixed.
-pub fn mix_columns(s: [u8; 16]) -> [u8; 16]
-    ensures { λ r. ⌜ Step mixColumns invMixColumns s r ⌝ }
+// A block of four columns.
+fn join(a: [u8; 4], b: [u8; 4], c: [u8; 4], d: [u8; 4]) -> [u8; 16]
+    ensures { λ r. ⌜ r ≡ joined (four a b c d) ⌝ }
 {
-    let a = mix_column([s[0], s[1], s[2], s[3]]);
-    let b = mix_column([s[4], s[5], s[6], s[7]]);
-    let c = mix_column([s[8], s[9], s[10], s[11]]);
-    let d = mix_column([s[12], s[13], s[14], s[15]]);
     [
         a[0],
         a[1],
@@ -129,32 +112,28 @@ pub fn mix_columns(s: [u8; 16]) -> [u8; 16]
     ]
 }
 
+// Each column mixed.
+pub fn mix_columns(s: [u8; 16]) -> [u8; 16]
+    ensures { λ r. ⌜ Step mixColumns invMixColumns s r ⌝ }
+{
+    join(
+        mix_column([s[0], s[1], s[2], s[3]]),
+        mix_column([s[4], s[5], s[6], s[7]]),
+        mix_column([s[8], s[9], s[10], s[11]]),
+        mix_column([s[12], s[13], s[14], s[15]]),
+    )
+}
+
 // Each column mixed back.
 pub fn inv_mix_columns(s: [u8; 16]) -> [u8; 16]
     ensures { λ r. ⌜ Step invMixColumns mixColumns s r ⌝ }
 {
-    let a = inv_mix_column([s[0], s[1], s[2], s[3]]);
-    let b = inv_mix_column([s[4], s[5], s[6], s[7]]);
-    let c = inv_mix_column([s[8], s[9], s[10], s[11]]);
-    let d = inv_mix_column([s[12], s[13], s[14], s[15]]);
-    [
-        a[0],
-        a[1],
-        a[2],
-        a[3],
-        b[0],
-        b[1],
-        b[2],
-        b[3],
-        c[0],
-        c[1],
-        c[2],
-        c[3],
-        d[0],
-        d[1],
-        d[2],
-        d[3],
-    ]
+    join(
+        inv_mix_column([s[0], s[1], s[2], s[3]]),
+        inv_mix_column([s[4], s[5], s[6], s[7]]),
+        inv_mix_column([s[8], s[9], s[10], s[11]]),
+        inv_mix_column([s[12], s[13], s[14], s[15]]),
+    )
 }
 
 // A round before its key: substitute, shift, mix.

@@ -1,7 +1,6 @@
 // Round keys and key sets.
 ghost use mathlib.Core.Path.{_≡_};
 ghost use mathlib.Core.List.{map};
-ghost use lib.ListN.{getD};
 ghost use Rattle.aes.specs.Keys.{roundConstants, Doubling, nextKey, row, schedule, Scheduled};
 use crate::sbox::sub_byte;
 

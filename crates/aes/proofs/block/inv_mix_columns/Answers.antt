@@ -10,5 +10,5 @@ unfolding columns
 returns c =
     let s = c .args .s in
     step invMixColumns mixColumns s _
-    (simp (c .inv-mix-column-a .ensures .made, c .inv-mix-column-b .ensures .made, c .inv-mix-column-c .ensures .made, c .inv-mix-column-d .ensures .made))
+    (simp (c .join .ensures, c .inv-mix-column .ensures .made, c .inv-mix-column-2 .ensures .made, c .inv-mix-column-3 .ensures .made, c .inv-mix-column-4 .ensures .made))
     (columns-undone mix invMix mix-invMix s (search needs, λ j. search needs))

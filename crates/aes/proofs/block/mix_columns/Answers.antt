@@ -10,5 +10,5 @@ unfolding columns
 returns c =
     let s = c .args .s in
     step mixColumns invMixColumns s _
-    (simp (c .mix-column-a .ensures .made, c .mix-column-b .ensures .made, c .mix-column-c .ensures .made, c .mix-column-d .ensures .made))
+    (simp (c .join .ensures, c .mix-column .ensures .made, c .mix-column-2 .ensures .made, c .mix-column-3 .ensures .made, c .mix-column-4 .ensures .made))
     (columns-undone invMix mix invMix-mix s (search needs, λ j. search needs))
