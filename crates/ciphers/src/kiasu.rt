@@ -1,8 +1,10 @@
 // KIASU-BC.
 ghost use mathlib.Core.Path.{_≡_};
+ghost use Rattle.aes.specs.Block.{addRoundKey, subBytes, invSubBytes, shiftRows, invShiftRows};
 ghost use Rattle.aes.specs.KeySets.{keyOf};
 ghost use Rattle.aes.specs.Step.{Step};
 ghost use Rattle.ciphers.specs.Kiasu.{kiasu as kiasuOf, invKiasu};
+ghost use Rattle.ciphers.specs.Tweaks.{tweakedKey};
 use crate::rounds::inv_rounds;
 use crate::rounds::rounds;
 use crate::rounds::tweaked_key;
@@ -18,23 +20,37 @@ pub struct KiasuBc {
     keys: KeySet,
 }
 
-// The whole cipher: each tweaked key before its round, where the last round does not mix, and one key more.
+// Tweaked key 9, the round that does not mix, and tweaked key 10.
+fn last_round(keys: &KeySet, tweak: [u8; 8], s: [u8; 16]) -> [u8; 16]
+    ensures { λ r. ⌜ r ≡ addRoundKey (shiftRows (subBytes (addRoundKey s (tweakedKey (keyOf (now (keys .entry))) tweak 9)))) (tweakedKey (keyOf (now (keys .entry))) tweak 10) ⌝ }
+{
+    let s = add_round_key(s, tweaked_key(keys, tweak, 9));
+    add_round_key(shift_rows(sub_bytes(s)), tweaked_key(keys, tweak, 10))
+}
+
+// That undone.
+fn inv_last_round(keys: &KeySet, tweak: [u8; 8], s: [u8; 16]) -> [u8; 16]
+    ensures { λ r. ⌜ r ≡ addRoundKey (invSubBytes (invShiftRows (addRoundKey s (tweakedKey (keyOf (now (keys .entry))) tweak 10)))) (tweakedKey (keyOf (now (keys .entry))) tweak 9) ⌝ }
+{
+    let s = add_round_key(s, tweaked_key(keys, tweak, 10));
+    add_round_key(
+        inv_sub_bytes(inv_shift_rows(s)),
+        tweaked_key(keys, tweak, 9),
+    )
+}
+
+// The whole cipher: each tweaked key before its round.
 fn cipher(keys: &KeySet, tweak: [u8; 8], block: [u8; 16]) -> [u8; 16]
     ensures { λ r. ⌜ Step (kiasuOf (keyOf (now (keys .entry))) tweak) (invKiasu (keyOf (now (keys .entry))) tweak) block r ⌝ }
 {
-    let s = rounds(keys, tweak, 0, 9, block);
-    let s = add_round_key(s, tweaked_key(keys, tweak, 9));
-    add_round_key(shift_rows(sub_bytes(s)), tweaked_key(keys, tweak, 10))
+    last_round(keys, tweak, rounds(keys, tweak, 0, 9, block))
 }
 
 // The whole inverse.
 fn inv_cipher(keys: &KeySet, tweak: [u8; 8], block: [u8; 16]) -> [u8; 16]
     ensures { λ r. ⌜ Step (invKiasu (keyOf (now (keys .entry))) tweak) (kiasuOf (keyOf (now (keys .entry))) tweak) block r ⌝ }
 {
-    let s = add_round_key(block, tweaked_key(keys, tweak, 10));
-    let s = inv_sub_bytes(inv_shift_rows(s));
-    let s = add_round_key(s, tweaked_key(keys, tweak, 9));
-    inv_rounds(keys, tweak, 0, 9, s)
+    inv_rounds(keys, tweak, 0, 9, inv_last_round(keys, tweak, block))
 }
 
 impl KiasuBc {
