@@ -1,0 +1,5 @@
+pub mod Block
+pub mod Field
+pub mod Keys
+pub mod KeySets
+pub mod Step

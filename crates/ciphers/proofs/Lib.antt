@@ -1,0 +1,4 @@
+pub mod Subkeys
+pub mod Runs
+pub mod Laws
+pub mod Untweaked

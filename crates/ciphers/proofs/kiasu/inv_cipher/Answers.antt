@@ -1,0 +1,10 @@
+use borrow.Author.Needs.{needs}
+use Rattle.aes.specs.KeySets.{keyOf}
+use Rattle.ciphers.proofs.Laws.{invKiasu-made}
+use Rattle.ciphers.proofs.kiasu.inv_cipher.Needs as need
+
+pub returns : need.returns
+returns c =
+    let keys = c .args .keys .now in
+    invKiasu-made (keyOf keys) (c .args .tweak) (keys .scheduled .0) (search needs, λ j. search needs) (c .args .block) _
+    (search needs, λ j. search needs) (cc)

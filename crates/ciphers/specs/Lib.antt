@@ -1,0 +1,4 @@
+pub mod Aes
+pub mod Forks
+pub mod Kiasu
+pub mod Tweaks
