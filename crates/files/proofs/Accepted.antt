@@ -17,7 +17,7 @@ use Rattle.files.specs.declared.fault.FileFault.{FileFault}
 use Rattle.files.specs.declared.record.Record.{Record}
 use Rattle.files.specs.declared.fault.FileFault.the-variants.{Short}
 use Rattle.files.specs.Faults.{sound, is-sound, answer}
-use Rattle.files.specs.Layout.{trailer, entries-start, count, entries, entry-start, entry, number, station, pile, rows, body-start, rows-before}
+use Rattle.files.specs.Layout.{trailer, entries-start, count, most-entries, entries, entry-start, entry, number, station, pile, rows, body-start, rows-before}
 use Rattle.files.specs.Records.{station-number, pile-number, station-of, pile-of, record-of, Reads}
 use Rattle.files.specs.Sound.{Entry-fits, Strip-file}
 use Rattle.files.specs.Verdict.{refuse, _andThen_, trailer-verdict, least-number, entry-verdict, entries-verdict, end-verdict, rest-verdict, verdict}
@@ -30,7 +30,7 @@ pile-back : (n : ℕ) → n ≤ 1 → pile-number (pile-of n) ≡ n
 pile-back n h = grind (arith, tells)
 
 module _ (len : ℕ) (t : List ℕ) (h : trailer-verdict len t ≡ sound) where
-  pub trailer-few : count t ≤ 256
+  pub trailer-few : count t ≤ most-entries
   trailer-few = grind (arith, tells)
 
   pub trailer-whole : entries-start t + 32 * count t + 16 ≡ len

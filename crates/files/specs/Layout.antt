@@ -42,7 +42,10 @@ total-rows t = be32 t 8
 abbrev pub mark : List ℕ → ℕ
 mark t = be32 t 12
 
--- how many entries a file has
+-- how many entries a file may have, and how many it has
+abbrev pub most-entries : ℕ
+most-entries = 256
+
 abbrev pub entries : List ℕ → ℕ
 entries bs = count (trailer bs)
 

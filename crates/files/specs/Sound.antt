@@ -4,7 +4,7 @@ use mathlib.Core.List.{List}
 use mathlib.Core.Path.{_≡_}
 use lib.ListN.{length}
 use Rattle.strips.specs.Rows.{most-rows}
-use Rattle.files.specs.Layout.{trailer, entries-start, entries, edition, spare, total-rows, mark, entry, number, station, pile, rows, body-start, zeros, rows-before}
+use Rattle.files.specs.Layout.{trailer, entries-start, most-entries, entries, edition, spare, total-rows, mark, entry, number, station, pile, rows, body-start, zeros, rows-before}
 use Rattle.files.specs.Verdict.{file-mark}
 
 pub record Entry-fits (bs : List ℕ) (i : ℕ) : Type 0 where
@@ -18,7 +18,7 @@ pub record Strip-file (bs : List ℕ) : Type 0 where
   pub has-trailer : 16 ≤ length bs
   pub has-mark : mark (trailer bs) ≡ file-mark
   pub edition-one : edition (trailer bs) ≡ 1
-  pub entries-few : entries bs ≤ 256
+  pub entries-few : entries bs ≤ most-entries
   pub spare-zero : spare (trailer bs) ≡ 0
   pub entries-end : entries-start (trailer bs) + 32 * entries bs + 16 ≡ length bs
   pub entries-fit : (i : ℕ) → i < entries bs → Entry-fits bs i

@@ -8,7 +8,7 @@ use Rattle.strips.specs.Rows.{most-rows}
 use Rattle.files.specs.declared.fault.FileFault.{FileFault}
 use Rattle.files.specs.declared.fault.FileFault.the-variants.{Short, Mark, Edition, Shape, Field, Order, BodyStart, TotalRows}
 use Rattle.files.specs.Faults.{Verdict, sound, refused, told}
-use Rattle.files.specs.Layout.{trailer, entries-start, count, entries, edition, spare, total-rows, mark, entry-start, entry, number, station, pile, rows, body-start, zeros, rows-before}
+use Rattle.files.specs.Layout.{trailer, entries-start, count, most-entries, entries, edition, spare, total-rows, mark, entry-start, entry, number, station, pile, rows, body-start, zeros, rows-before}
 
 abbrev pub refuse : FileFault → Verdict
 refuse f = refused (told f)
@@ -28,7 +28,7 @@ abbrev pub trailer-verdict : (len : ℕ) (t : List ℕ) → Verdict
 trailer-verdict len t =
     cond (not (eqb (mark t) file-mark)) (refuse (Mark (len - 16 + 12)))
     (cond (not (eqb (edition t) 1)) (refuse (Edition (len - 16 + 6)))
-    (cond (ltb 256 (count t)) (refuse (Shape (len - 16 + 4)))
+    (cond (ltb most-entries (count t)) (refuse (Shape (len - 16 + 4)))
     (cond (not (eqb (spare t) 0)) (refuse (Shape (len - 16 + 7)))
     (cond (not (eqb (entries-start t + 32 * count t + 16) len)) (refuse (Shape (len - 16))) sound))))
 

@@ -8,7 +8,7 @@ ghost use Rattle.std.specs.Vec.{made};
 ghost use Rattle.files.specs.Faults.{answer, sound};
 ghost use Rattle.strips.specs.Rows.{most-rows};
 ghost use Rattle.files.specs.Checks.{Passed};
-ghost use Rattle.files.specs.Layout.{trailer as trailer-of};
+ghost use Rattle.files.specs.Layout.{most-entries, trailer as trailer-of};
 ghost use Rattle.files.specs.Sound.{Strip-file};
 ghost use Rattle.files.specs.Verdict.{verdict, trailer-verdict, fields-verdict, rest-verdict, end-verdict};
 use crate::fault::FileFault;
@@ -19,6 +19,9 @@ use strips::RowCount;
 
 // FNCP
 const MARK: u32 = 0x464E4350;
+
+// How many entries a file may have.
+const MOST_ENTRIES: usize = 256;
 
 // The trailer of a file of `len` bytes.
 fn check_trailer(len: usize, trailer: &[u8]) -> Result<(), FileFault>
@@ -33,7 +36,7 @@ fn check_trailer(len: usize, trailer: &[u8]) -> Result<(), FileFault>
         return Err(FileFault::Edition { byte: at + 6 });
     }
     let count = get16(trailer, 4) as usize;
-    if count > 256 {
+    if count > MOST_ENTRIES {
         return Err(FileFault::Shape { byte: at + 4 });
     }
     if trailer[7] != 0 {
@@ -54,7 +57,7 @@ struct Before {
 
 // Entry i, whose bytes begin at byte `at`, and what it leaves the next one.
 fn check_entry(entry: &[u8], i: usize, at: usize, before: Before) -> Result<Before, FileFault>
-    requires { ⌜ length (now entry) ≡ 32 ⌝ ∗ ⌜ at + 32 < 2 ^ 64 ⌝ ∗ ⌜ before .rows ≤ most-rows * 256 ⌝ }
+    requires { ⌜ length (now entry) ≡ 32 ⌝ ∗ ⌜ at + 32 < 2 ^ 64 ⌝ ∗ ⌜ before .rows ≤ most-rows * most-entries ⌝ }
     ensures is { λ r. ⌜ answer r ≡ fields-verdict i (now (entry .entry)) at (before .least) (16 * before .rows) ⌝ }
     ensures leaves { λ r. ⌜ made r (Passed (now (entry .entry)) before) ⌝ }
 {
@@ -100,7 +103,7 @@ fn check_entry(entry: &[u8], i: usize, at: usize, before: Before) -> Result<Befo
 
 // The end of a file of `len` bytes, after all entries, which have `sum` rows.
 fn check_end(len: usize, trailer: &[u8], entries: usize, sum: usize) -> Result<(), FileFault>
-    requires { ⌜ 16 ≤ len ⌝ ∗ ⌜ length (now trailer) ≡ 16 ⌝ ∗ ⌜ sum ≤ most-rows * 256 ⌝ }
+    requires { ⌜ 16 ≤ len ⌝ ∗ ⌜ length (now trailer) ≡ 16 ⌝ ∗ ⌜ sum ≤ most-rows * most-entries ⌝ }
     ensures { λ r. ⌜ answer r ≡ end-verdict len (now (trailer .entry)) entries sum ⌝ }
 {
     let at = len - 16;

@@ -4,7 +4,7 @@ ghost use mathlib.Core.Bool.{true};
 ghost use denote.Ref.{now};
 ghost use Prim.Native.Nat.{_+_, _<_, _≤_};
 ghost use lib.ListN.{length};
-ghost use Rattle.files.specs.Layout.{entries, entry, body};
+ghost use Rattle.files.specs.Layout.{most-entries, entries, entry, body};
 ghost use Rattle.files.specs.Faults.{Named, is-sound, sound};
 ghost use Rattle.files.specs.Records.{Reads};
 ghost use Rattle.files.specs.Verdict.{verdict};
@@ -32,7 +32,7 @@ impl<'a> StripFile<'a> {
 
     // How many entries there are.
     pub fn count(&self) -> usize
-        ensures { λ r. ⌜ r ≡ entries (now (now (self .entry) .bytes)) ⌝ ∗ ⌜ r ≤ 256 ⌝ }
+        ensures { λ r. ⌜ r ≡ entries (now (now (self .entry) .bytes)) ⌝ ∗ ⌜ r ≤ most-entries ⌝ }
     {
         get16(trailer_of(self.bytes), 4) as usize
     }

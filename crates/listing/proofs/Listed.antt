@@ -19,7 +19,7 @@ use Rattle.strips.specs.declared.place.Pile.the-variants.{Home, Away}
 use Rattle.strips.specs.Rows.{most-rows}
 use Rattle.files.specs.declared.record.Record.{Record}
 use Rattle.files.specs.Faults.{Fault, sound, refused}
-use Rattle.files.specs.Layout.{entries, entry, rows, rows-before}
+use Rattle.files.specs.Layout.{most-entries, entries, entry, rows, rows-before}
 use Rattle.files.specs.Records.{record-of, first-records, records}
 use Rattle.files.specs.Sound.{Strip-file}
 use Rattle.files.specs.Verdict.{verdict}
@@ -53,7 +53,7 @@ pub record-short : (r : Record) → r .number < 2 ^ 16 → r .rows ≤ most-rows
 record-short r n m =
     omega (arith, length-record-line r, station-short (r .station), pile-short (r .pile), length-decimal-le 5 (r .number) (omega arith) (omega arith) (omega arith), length-decimal-le 4 (r .rows) (omega arith) (omega arith) (omega arith))
 
-pub total-short : (n s : ℕ) → n ≤ 256 → s ≤ most-rows * 256 → length (total-line n s) ≤ longest-total
+pub total-short : (n s : ℕ) → n ≤ most-entries → s ≤ most-rows * most-entries → length (total-line n s) ≤ longest-total
 total-short n s few small =
     omega (arith, length-total-line n s, length-decimal-le 3 n (omega arith) (omega arith) (omega arith), length-decimal-le 7 s (omega arith) (omega arith) (omega arith))
 

@@ -3,6 +3,7 @@ ghost use Prim.Native.Nat.{_+_, _*_, _≤_};
 ghost use lib.ListN.{length};
 ghost use mathlib.Core.Path.{_≡_};
 ghost use Rattle.files.specs.Faults.{told};
+ghost use Rattle.files.specs.Layout.{most-entries};
 ghost use Rattle.strips.specs.Rows.{most-rows};
 ghost use Rattle.listing.specs.Lengths.{longest-record, longest-total, longest-fault};
 ghost use Rattle.listing.specs.Listing.{station-word, pile-word, record-line, total-line, fault-line, refused-line};
@@ -47,7 +48,7 @@ pub(crate) fn put_record(place: &mut [u8], at: usize, record: Record) -> usize
 }
 
 pub(crate) fn put_total(place: &mut [u8], at: usize, entries: usize, rows: usize) -> usize
-    requires { ⌜ at + longest-total ≤ length (now place) ⌝ ∗ ⌜ entries ≤ 256 ⌝ ∗ ⌜ rows ≤ most-rows * 256 ⌝ }
+    requires { ⌜ at + longest-total ≤ length (now place) ⌝ ∗ ⌜ entries ≤ most-entries ⌝ ∗ ⌜ rows ≤ most-rows * most-entries ⌝ }
     ensures { λ end. ⌜ Put (now (place .entry)) at (total-line entries rows) (now (place .exit)) end ⌝ }
 {
     let at = put_labelled(place, at, b"entries ", entries);

@@ -4,7 +4,7 @@ ghost use lib.ListN.{length};
 ghost use mathlib.Core.Path.{_≡_};
 ghost use Rattle.strips.specs.Rows.{most-rows};
 ghost use Rattle.files.specs.Faults.{refused, sound, told};
-ghost use Rattle.files.specs.Layout.{entries, entry};
+ghost use Rattle.files.specs.Layout.{most-entries, entries, entry};
 ghost use Rattle.files.specs.Records.{records, Reads};
 ghost use Rattle.files.specs.Verdict.{verdict};
 ghost use Rattle.listing.specs.Lengths.{longest-record};
@@ -41,7 +41,7 @@ fn record_of(file: StripFile<'_>, i: usize) -> Record
 }
 
 fn list_record(place: &mut [u8], so_far: Progress, record: Record) -> Progress
-    requires { ⌜ «so_far» .used + longest-record ≤ length (now place) ⌝ ∗ ⌜ «so_far» .rows ≤ most-rows * 256 ⌝ ∗ ⌜ «record» .rows ≤ most-rows ⌝ }
+    requires { ⌜ «so_far» .used + longest-record ≤ length (now place) ⌝ ∗ ⌜ «so_far» .rows ≤ most-rows * most-entries ⌝ ∗ ⌜ «record» .rows ≤ most-rows ⌝ }
     ensures line { λ r. ⌜ Put (now (place .entry)) («so_far» .used) (record-line «record») (now (place .exit)) (r .used) ⌝ }
     ensures counts { λ r. ⌜ r .rows ≡ «so_far» .rows + «record» .rows ⌝ }
 {
