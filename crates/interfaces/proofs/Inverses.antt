@@ -34,11 +34,11 @@ pub side-inverse : {i o j p : List ℕ → List ℕ → List ℕ} → Inverse i 
 side-inverse l r Left = l
 side-inverse l r Right = r
 
--- XOR with sixteen bytes
-pub xor-inverse : (p : List ℕ) → Bytes 16 p → Inverse (λ t b. xored 16 b p) (λ t b. xored 16 b p)
-xor-inverse p h = record {
-  image-block = λ t b w v. xored-bytes 16 b p (v .1) (h .1);
-  origin-block = λ t b w v. xored-bytes 16 b p (v .1) (h .1);
-  origin-image = λ t b w v. xored-twice 16 b p v;
-  image-origin = λ t b w v. xored-twice 16 b p v;
+-- XOR with sixteen bytes that the tweak decides
+pub xor-inverse : (f : List ℕ → List ℕ) → ((t : List ℕ) → Bytes 8 t → Bytes 16 (f t)) → Inverse (λ t b. xored 16 b (f t)) (λ t b. xored 16 b (f t))
+xor-inverse f h = record {
+  image-block = λ t b w v. xored-bytes 16 b (f t) (v .1) (h t w .1);
+  origin-block = λ t b w v. xored-bytes 16 b (f t) (v .1) (h t w .1);
+  origin-image = λ t b w v. xored-twice 16 b (f t) v;
+  image-origin = λ t b w v. xored-twice 16 b (f t) v;
 }

@@ -1,4 +1,4 @@
-// For each tweak, a left and a right image of every block.
+// Ciphers that make two images of a block under a tweak, a left and a right one.
 ghost use mathlib.Core.Path.{_≡_};
 ghost use Rattle.interfaces.specs.Maps.{Maps, Lawful};
 ghost use Rattle.interfaces.specs.Sides.{other};

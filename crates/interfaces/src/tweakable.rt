@@ -1,4 +1,4 @@
-// For each tweak, one image of every block.
+// Ciphers that make one image of a block, and another one under another tweak.
 ghost use mathlib.Core.Path.{_≡_};
 ghost use Rattle.interfaces.specs.Maps.{Map, Inverse};
 
