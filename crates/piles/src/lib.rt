@@ -1,0 +1,4 @@
+// A cipher of this crate's own behind the interfaces, and piles of layers over it and over the others, tried on examples.
+pub mod foreign;
+#[cfg(test)]
+mod tests;
