@@ -2,3 +2,5 @@
 pub mod foreign;
 #[cfg(test)]
 mod tests;
+#[cfg(test)]
+mod vectors;
