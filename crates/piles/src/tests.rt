@@ -1,6 +1,7 @@
 // Piles by their images: what is expected comes from the vectors by the layers' formulas.
 use crate::foreign::Shifted;
 use crate::foreign::ShiftedTweakable;
+use crate::law::there_and_back;
 use crate::vectors::VECTORS;
 use crate::vectors::Vector;
 use ciphers::ForkAes;
@@ -188,7 +189,10 @@ fn three_of_kiasu() -> Result<(), Fail> {
         left: KiasuBc::new(P.to_be_bytes()),
         right: KiasuBc::new(Q.to_be_bytes()),
     });
-    let (left, right) = pile.fork(v.tweak.to_be_bytes(), v.block.to_be_bytes());
+    let t = v.tweak.to_be_bytes();
+    let b = v.block.to_be_bytes();
+    check(u128::from_be_bytes(there_and_back(&pile, Side::Left, t, b)) == v.block)?;
+    let (left, right) = pile.fork(t, b);
     forks(
         &pile,
         v.tweak,
