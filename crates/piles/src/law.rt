@@ -14,7 +14,7 @@ pub fn there_and_back<C: Forkcipher>(
 {
     let (left, right) = cipher.fork(tweak, block);
     match side {
-        Side::Left => cipher.back(side, tweak, left),
-        Side::Right => cipher.back(side, tweak, right),
+        Side::Left => cipher.back(Side::Left, tweak, left),
+        Side::Right => cipher.back(Side::Right, tweak, right),
     }
 }
