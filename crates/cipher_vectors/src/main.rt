@@ -6,7 +6,7 @@ use aes::keys::KeySet;
 use ciphers::aes128::Aes128;
 use ciphers::forkaes::ForkAes;
 use ciphers::kiasu::KiasuBc;
-use ciphers::sides::Side;
+use interfaces::Side;
 use std::io;
 use tables::AES;
 use tables::FORK;

@@ -7,8 +7,9 @@ use Rattle.aes.specs.Block.{Bytes, addRoundKey, subBytes, invSubBytes, shiftRow
 use Rattle.aes.specs.Step.{Step}
 use Rattle.aes.proofs.Blocks.{xored-twice, subBytes-bytes, invSubBytes-bytes, invSubBytes-subBytes, subBytes-invSubBytes, shiftRows-bytes, invShiftRows-bytes, invShiftRows-shiftRows, shiftRows-invShiftRows}
 use Rattle.aes.proofs.Table.{step}
-use Rattle.ciphers.specs.declared.sides.Side.{Side}
-use Rattle.ciphers.specs.Forks.{run, invRun, stem, invStem, start, branch, invBranch, forkAes, invForkAes}
+use Rattle.interfaces.specs.declared.sides.Side.{Side}
+use Rattle.interfaces.specs.Maps.{Inverse, Lawful}
+use Rattle.ciphers.specs.Forks.{run, invRun, stem, invStem, start, branch, invBranch, forkAes, invForkAes, forkAesMaps}
 use Rattle.ciphers.specs.Kiasu.{invKiasuRounds, kiasu, invKiasu}
 use Rattle.ciphers.specs.Tweaks.{tweakedKey}
 use Rattle.ciphers.proofs.Runs.{kiasuRounds-run, invKiasuRounds-run, keyed-bytes, run-bytes, invRun-bytes, invRun-run, run-invRun, keyedRun-undone, keyedRun-redone}
@@ -58,6 +59,20 @@ module _ (key t : List ℕ) (bk : Bytes 16 key) (bt : Bytes 8 t) where
       (kiasuRounds-run ks 9 (invRun ks 0 9 (addRoundKey s (ks 9))) ∙ keyedRun-redone ks small 0 9 9 s (invSubBytes-bytes _ (invShiftRows-bytes _ bs)))
       ∙ last-redone (ks 10) b h bs
 
+  kiasu-bytes : (b : List ℕ) → Bytes 16 b → Bytes 16 (kiasu key t b)
+  unfolding kiasu
+  kiasu-bytes b h =
+      let ks = subkey in
+      let last = keyed-bytes ks small 9 (run ks 0 9 b) (run-bytes ks small 0 9 b h) in
+      rw (kiasuRounds-run ks 9 b) (keyed-bytes ks small 10 _ (shiftRows-bytes _ (subBytes-bytes _ last)))
+
+  invKiasu-bytes : (b : List ℕ) → Bytes 16 b → Bytes 16 (invKiasu key t b)
+  unfolding invKiasu
+  invKiasu-bytes b h =
+      let ks = subkey in
+      let last = invSubBytes-bytes _ (invShiftRows-bytes _ (keyed-bytes ks small 10 b h)) in
+      rw (invKiasuRounds-run ks 9 (invSubBytes (invShiftRows (addRoundKey b (ks 10))))) (invRun-bytes ks small 0 9 _ (keyed-bytes ks small 9 _ last))
+
   -- the code's grouping: each subkey before its round
   pub kiasu-made : (b r : List ℕ) → Bytes 16 b → r ≡ addRoundKey (shiftRows (subBytes (addRoundKey (run subkey 0 9 b) (subkey 9)))) (subkey 10)
       → Step (kiasu key t) (invKiasu key t) b r
@@ -91,6 +106,18 @@ module _ (key t : List ℕ) (bk : Bytes 16 key) (bt : Bytes 8 t) where
   fork-redone side b h =
       ap (branch subkey side) (stem-redone side b h) ∙ keyedRun-redone subkey small (start side) 5 (start side + 5) b h
 
+  forkAes-bytes : (side : Side) (b : List ℕ) → Bytes 16 b → Bytes 16 (forkAes key side t b)
+  unfolding forkAes
+  forkAes-bytes side b h =
+      let ks = subkey in
+      keyed-bytes ks small (start side + 5) _ (run-bytes ks small (start side) 5 _ (run-bytes ks small 0 5 b h))
+
+  invForkAes-bytes : (side : Side) (b : List ℕ) → Bytes 16 b → Bytes 16 (invForkAes key side t b)
+  unfolding invForkAes
+  invForkAes-bytes side b h =
+      let ks = subkey in
+      invRun-bytes ks small 0 5 _ (invRun-bytes ks small (start side) 5 _ (keyed-bytes ks small (start side + 5) b h))
+
   pub forkAes-made : (side : Side) (b r : List ℕ) → Bytes 16 b → r ≡ branch subkey side (stem subkey b) → Step (forkAes key side t) (invForkAes key side t) b r
   unfolding forkAes
   forkAes-made side b r h e = step (forkAes key side t) (invForkAes key side t) b r e (fork-undone side b h)
@@ -103,3 +130,20 @@ module _ (key t : List ℕ) (bk : Bytes 16 key) (bt : Bytes 8 t) where
   pub crossed : (from to : Side) (b : List ℕ) → Bytes 16 b → branch subkey to (invBranch subkey from b) ≡ forkAes key to t (invForkAes key from t b)
   unfolding forkAes
   crossed from to b h = sym (ap (branch subkey to) (stem-redone from b h))
+
+-- the laws that the interfaces ask for
+pub kiasu-inverse : (key : List ℕ) → Bytes 16 key → Inverse (kiasu key) (invKiasu key)
+kiasu-inverse key bk = record {
+  image-block = λ t b w v. kiasu-bytes key t bk w b v;
+  origin-block = λ t b w v. invKiasu-bytes key t bk w b v;
+  origin-image = λ t b w v. kiasu-undone key t bk w b v;
+  image-origin = λ t b w v. kiasu-redone key t bk w b v;
+}
+
+pub forkAes-lawful : (key : List ℕ) → Bytes 16 key → Lawful (forkAesMaps key)
+forkAes-lawful key bk s = record {
+  image-block = λ t b w v. forkAes-bytes key t bk w s b v;
+  origin-block = λ t b w v. invForkAes-bytes key t bk w s b v;
+  origin-image = λ t b w v. fork-undone key t bk w s b v;
+  image-origin = λ t b w v. fork-redone key t bk w s b v;
+}

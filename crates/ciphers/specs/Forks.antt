@@ -2,8 +2,9 @@
 use Prim.Native.Nat.{ℕ, zero, suc, _+_}
 use mathlib.Core.List.{List}
 use Rattle.aes.specs.Block.{addRoundKey, fullRound, invFullRound}
-use Rattle.ciphers.specs.declared.sides.Side.{Side}
-use Rattle.ciphers.specs.declared.sides.Side.the-variants.{Left, Right}
+use Rattle.interfaces.specs.declared.sides.Side.{Side}
+use Rattle.interfaces.specs.declared.sides.Side.the-variants.{Left, Right}
+use Rattle.interfaces.specs.Maps.{Maps}
 use Rattle.ciphers.specs.Tweaks.{tweakedKey}
 
 -- n times from i on: subkey i, then a full round
@@ -42,6 +43,6 @@ forkAes key side t b = let ks = tweakedKey key t in branch ks side (stem ks b)
 unfoldable pub invForkAes : List ℕ → Side → List ℕ → List ℕ → List ℕ
 invForkAes key side t b = let ks = tweakedKey key t in invStem ks (invBranch ks side b)
 
-abbrev pub other : Side → Side
-other Left = Right
-other Right = Left
+-- both, as a forkcipher has them
+abbrev pub forkAesMaps : List ℕ → Maps
+forkAesMaps key = record { image = forkAes key; origin = invForkAes key }

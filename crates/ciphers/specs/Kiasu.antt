@@ -2,6 +2,7 @@
 use Prim.Native.Nat.{ℕ, zero, suc}
 use mathlib.Core.List.{List}
 use Rattle.aes.specs.Block.{addRoundKey, subBytes, invSubBytes, shiftRows, invShiftRows, mixColumns, invMixColumns}
+use Rattle.interfaces.specs.Maps.{Map}
 use Rattle.ciphers.specs.Tweaks.{tweakedKey}
 
 -- the rounds 1 to n under the subkeys ks
@@ -24,3 +25,7 @@ unfoldable pub invKiasu : List ℕ → List ℕ → List ℕ → List ℕ
 invKiasu key t b =
     let ks = tweakedKey key t in
     addRoundKey (invKiasuRounds ks 9 (invSubBytes (invShiftRows (addRoundKey b (ks 10))))) (ks 0)
+
+-- both, as a tweakable cipher has them
+abbrev pub kiasuMap : List ℕ → Map
+kiasuMap key = record { image = kiasu key; origin = invKiasu key }

@@ -1,17 +1,20 @@
 // ForkAES.
+pub mod forkcipher;
+
 ghost use Prim.Native.Nat.{_+_, _≤_};
 ghost use mathlib.Core.Path.{_≡_};
 ghost use Rattle.aes.specs.KeySets.{keyOf};
 ghost use Rattle.aes.specs.Step.{Step};
-ghost use Rattle.ciphers.specs.Forks.{start as startOf, branch as branchOf, invBranch, forkAes as forkAesOf, invForkAes, other};
+ghost use Rattle.ciphers.specs.Forks.{start as startOf, branch as branchOf, invBranch, forkAes as forkAesOf, invForkAes};
 ghost use Rattle.ciphers.specs.Tweaks.{tweakedKey};
-ghost use Rattle.ciphers.specs.declared.sides.Side.the-variants.{Left, Right};
+ghost use Rattle.interfaces.specs.Sides.{other};
+ghost use Rattle.interfaces.specs.declared.sides.Side.the-variants.{Left, Right};
 use crate::rounds::inv_rounds;
 use crate::rounds::rounds;
 use crate::rounds::tweaked_key;
-use crate::sides::Side;
 use aes::block::add_round_key;
 use aes::keys::KeySet;
+use interfaces::Side;
 
 #[derive(Clone, Copy)]
 pub struct ForkAes {

@@ -1,4 +1,6 @@
 // KIASU-BC.
+pub mod tweakable;
+
 ghost use mathlib.Core.Path.{_≡_};
 ghost use Rattle.aes.specs.Block.{addRoundKey, subBytes, invSubBytes, shiftRows, invShiftRows};
 ghost use Rattle.aes.specs.KeySets.{keyOf};

@@ -3,4 +3,8 @@ pub mod aes128;
 pub mod forkaes;
 pub mod kiasu;
 mod rounds;
-pub mod sides;
+
+pub use forkaes::ForkAes;
+pub use forkaes::forkcipher::ForkAesForkcipher;
+pub use kiasu::KiasuBc;
+pub use kiasu::tweakable::KiasuBcTweakable;

@@ -1,6 +1,6 @@
 use borrow.Author.Needs.{needs}
 use Rattle.aes.specs.KeySets.{keyOf}
-use Rattle.ciphers.specs.Forks.{other}
+use Rattle.interfaces.specs.Sides.{other}
 use Rattle.ciphers.proofs.Laws.{crossed}
 use Rattle.ciphers.proofs.forkaes.crossed.Needs as need
 

@@ -1,6 +1,6 @@
 use borrow.Author.Needs.{needs}
 use Rattle.aes.specs.KeySets.{keyOf}
-use Rattle.ciphers.specs.declared.sides.Side.the-variants.{Left, Right}
+use Rattle.interfaces.specs.declared.sides.Side.the-variants.{Left, Right}
 use Rattle.ciphers.proofs.Laws.{forkAes-made}
 use Rattle.ciphers.proofs.forkaes.images.Needs as need
 

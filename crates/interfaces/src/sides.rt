@@ -1,6 +1,6 @@
 // The two sides of a forkcipher.
 ghost use mathlib.Core.Path.{_≡_};
-ghost use Rattle.ciphers.specs.Forks.{other};
+ghost use Rattle.interfaces.specs.Sides.{other};
 
 #[derive(Clone, Copy)]
 pub enum Side {
