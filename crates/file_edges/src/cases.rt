@@ -19,7 +19,7 @@ const SAMPLE: [u8; 128] = *b"\
 pub const SAME: Edit = (0, b'o');
 
 // The sample with two edits made.
-pub fn edited(first: Edit, second: Edit) -> [u8; 128] {
+pub(crate) fn edited(first: Edit, second: Edit) -> [u8; 128] {
     let mut file = SAMPLE;
     for (at, byte) in [first, second] {
         if at < 128 {

@@ -3,7 +3,7 @@ use std::alloc::AllocError;
 use std::alloc::Global;
 
 // Strips 0, 1, 2 .. of so many rows each, at plain and home, with zeros for bodies and stamps.
-pub fn long_strips(heap: Global, strips: u16, rows: u32) -> Result<Vec<u8>, AllocError> {
+pub(crate) fn long_strips(heap: Global, strips: u16, rows: u32) -> Result<Vec<u8>, AllocError> {
     let body = 16usize.saturating_mul(rows as usize);
     let bodies = body.saturating_mul(strips as usize);
     let mut file = vec![in heap; 0u8; bodies]?;
@@ -24,6 +24,6 @@ pub fn long_strips(heap: Global, strips: u16, rows: u32) -> Result<Vec<u8>, Allo
     Ok(file)
 }
 
-pub fn entries_only(heap: Global, entries: u16) -> Result<Vec<u8>, AllocError> {
+pub(crate) fn entries_only(heap: Global, entries: u16) -> Result<Vec<u8>, AllocError> {
     long_strips(heap, entries, 0)
 }
