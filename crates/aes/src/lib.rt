@@ -1,4 +1,6 @@
 // The parts that AES-128 and the ciphers over it are made of: the substitution, the steps on a block, the key schedule.
+#![tactic(auto)]
+
 pub mod block;
 pub mod columns;
 pub mod inv_sbox;

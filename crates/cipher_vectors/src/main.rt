@@ -1,4 +1,6 @@
 // Compares AES-128, KIASU-BC and ForkAES with published and with independently made vectors.
+#![tactic(auto)]
+
 mod tables;
 mod tally;
 

@@ -1,4 +1,6 @@
 // AES-128, KIASU-BC and ForkAES.
+#![tactic(auto)]
+
 pub mod aes128;
 pub mod forkaes;
 pub mod kiasu;

@@ -1,5 +1,7 @@
 // Files at the edge of each refusal, and the nearest that are not refused. What is expected was worked out by hand from
 // the layout in docs/FORMATS.md. Prints how many came out so, and each that did not.
+#![tactic(auto)]
+
 mod cases;
 mod made;
 

@@ -1,4 +1,6 @@
 // The strip file: which bytes are one, and what is in it.
+#![tactic(auto)]
+
 mod checks;
 mod fault;
 mod file;

@@ -1,4 +1,6 @@
 // Tweakable ciphers and forkciphers as interfaces: what they answer, the laws that they keep, and ciphers made of any others.
+#![tactic(auto)]
+
 pub mod bytes;
 pub mod forkcipher;
 pub mod joined;

@@ -1,5 +1,7 @@
 // The journey of a strip: it is laid and led through a list of calls, by one replay and then step by step. What has to
 // be printed was calculated by model/journey.py, which shares no code with the library.
+#![tactic(auto)]
+
 mod calls;
 mod piles;
 mod printing;

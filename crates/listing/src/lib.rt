@@ -1,4 +1,6 @@
 // A strip file as lines of text.
+#![tactic(auto)]
+
 mod lines;
 mod listing;
 mod text;

@@ -1,4 +1,6 @@
 // Lists of calls on one strip, and the law over every such list.
+#![tactic(auto)]
+
 mod making;
 mod ready;
 mod replaying;

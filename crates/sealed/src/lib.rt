@@ -1,4 +1,6 @@
 // Strips: rows of sixteen bytes, kept in the caller's memory at a place.
+#![tactic(auto)]
+
 mod comparing;
 mod exchanging;
 mod laying;

@@ -1,4 +1,6 @@
 // Lists the strips of the strip file on standard input.
+#![tactic(auto)]
+
 use listing::list;
 use std::io;
 use std::io::{Read, Write};

@@ -1,5 +1,7 @@
 // What others name of a strip: where it is, how many rows it has, and why one of its calls is refused.
 // A strip is a run of rows, sixteen bytes each, that stays in the memory of whoever uses it.
+#![tactic(auto)]
+
 mod fault;
 mod place;
 mod rows;
