@@ -12,7 +12,7 @@ loop-b-init c = replaced_none inv_s_box c.args.s (search rules)
 pub loop-b-preserved : goal.loop-b-preserved
 loop-b-preserved c =
     replaced_more inv_s_box c.args.s c.loop-b.b-items c.loop-b.b-index c.loop-b.invariant c.loop-b-test.true
-    c.inv-sub-byte.result c.inv-sub-byte.ensures.made
+    c.inv_sub_byte.result c.inv_sub_byte.ensures.made
 
 pub returns : goal.returns
 unfolding inv_sub_bytes

@@ -12,7 +12,7 @@ loop-b-init c = replaced_none s_box c.args.s (search rules)
 pub loop-b-preserved : goal.loop-b-preserved
 loop-b-preserved c =
     replaced_more s_box c.args.s c.loop-b.b-items c.loop-b.b-index c.loop-b.invariant c.loop-b-test.true
-    c.sub-byte.result c.sub-byte.ensures.made
+    c.sub_byte.result c.sub_byte.ensures.made
 
 pub returns : goal.returns
 unfolding sub_bytes

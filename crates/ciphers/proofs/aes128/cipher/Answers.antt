@@ -14,7 +14,7 @@ loop-i-init c = refl
 pub loop-i-preserved : goal.loop-i-preserved
 loop-i-preserved c =
     let key = key_of c.args.keys.now in
-    let e = aes_rounds_more key c.loop-i.i c.add-round-key-s.result c.loop-i.auto.i in
+    let e = aes_rounds_more key c.loop-i.i c.add_round_key-s.result c.loop-i.auto.i in
     c.round-next.ensures ∙ ap (λ s. add_round_key (full_round s) (round_key key c.loop-i.i)) c.loop-i.invariant ∙ sym e
 
 pub returns : goal.returns
@@ -24,7 +24,7 @@ returns c =
     let key = key_of keys in
     let b = c.args.block in
     let n : c.loop-i.i - 1 ≡ 9 = omega arith in
-    let e = ap (λ m. aes_rounds key m c.add-round-key-s.result) n in
+    let e = ap (λ m. aes_rounds key m c.add_round_key-s.result) n in
     let u = aes_untweaked key keys.scheduled.0 b in record {
       made = step (aes key) (inv_aes key) b _ (cc) (aes_undone key keys.scheduled.0 b (search rules, λ j. search rules));
       untweaked = cc;

@@ -13,7 +13,7 @@ loop-i-preserved c =
     let key = key_of c.args.keys.now in
     let n = c.loop-i.i - 1 in
     let h : 0 < n = omega arith in
-    ap (inv_aes_rounds key (n - 1)) c.inv-round-next.ensures
+    ap (inv_aes_rounds key (n - 1)) c.inv_round-next.ensures
     ∙ sym (inv_aes_rounds_more key n c.loop-i.s h)
     ∙ c.loop-i.invariant
 

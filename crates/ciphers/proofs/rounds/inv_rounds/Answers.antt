@@ -12,7 +12,7 @@ pub loop-n-preserved : goal.loop-n-preserved
 loop-n-preserved c =
     let ks = tweaked_key (key_of c.args.keys.now) c.args.tweak in
     let e = inv_run_more ks c.args.start c.loop-n.n c.loop-n.s c.loop-n-test.true in
-    ap (inv_run ks c.args.start (c.loop-n.n - 1)) c.inv-round-next.ensures ∙ sym e ∙ c.loop-n.invariant
+    ap (inv_run ks c.args.start (c.loop-n.n - 1)) c.inv_round-next.ensures ∙ sym e ∙ c.loop-n.invariant
 
 pub returns : goal.returns
 unfolding inv_run

@@ -12,17 +12,17 @@ returns-then-bytes-lt16 c =
     let is = short_verdict c.args.bytes.now c.if-bytes-lt16.true in
     record { is = is; accepts = decides c.args.bytes.now {T = Unit {0}} (Err Short) is }
 
-pub returns-in-err-check-trailer : goal.returns-in-err-check-trailer
-returns-in-err-check-trailer c =
-    let p = err_from_is_err_and c.from-residual.result c.from-residual.ensures.1 in
-    let trailer = ap (trailer_verdict (length c.args.bytes.now)) c.trailer-of-trailer.ensures.is in
-    let is : answer c.from-residual.result ≡ verdict c.args.bytes.now =
-    rw (p.1, p.2) (refused_first _ (c.in-err-check-trailer.ensures ∙ trailer) ∙ long_verdict c.args.bytes.now c.if-bytes-lt16.false) in
-    record { is = is; accepts = decides c.args.bytes.now c.from-residual.result is }
+pub returns-in_err-check_trailer : goal.returns-in_err-check_trailer
+returns-in_err-check_trailer c =
+    let p = err_from_is_err_and c.from_residual.result c.from_residual.ensures.1 in
+    let trailer = ap (trailer_verdict (length c.args.bytes.now)) c.trailer_of-trailer.ensures.is in
+    let is : answer c.from_residual.result ≡ verdict c.args.bytes.now =
+    rw (p.1, p.2) (refused_first _ (c.in_err-check_trailer.ensures ∙ trailer) ∙ long_verdict c.args.bytes.now c.if-bytes-lt16.false) in
+    record { is = is; accepts = decides c.args.bytes.now c.from_residual.result is }
 
 pub returns : goal.returns
 returns c =
-    let trailer = ap (trailer_verdict (length c.args.bytes.now)) c.trailer-of-trailer.ensures.is in
-    let is : answer c.check-rest.result ≡ verdict c.args.bytes.now =
-    c.check-rest.ensures ∙ sound_first _ (c.in-ok-check-trailer.ensures ∙ trailer) ∙ long_verdict c.args.bytes.now c.if-bytes-lt16.false in
-    record { is = is; accepts = decides c.args.bytes.now c.check-rest.result is }
+    let trailer = ap (trailer_verdict (length c.args.bytes.now)) c.trailer_of-trailer.ensures.is in
+    let is : answer c.check_rest.result ≡ verdict c.args.bytes.now =
+    c.check_rest.ensures ∙ sound_first _ (c.in_ok-check_trailer.ensures ∙ trailer) ∙ long_verdict c.args.bytes.now c.if-bytes-lt16.false in
+    record { is = is; accepts = decides c.args.bytes.now c.check_rest.result is }

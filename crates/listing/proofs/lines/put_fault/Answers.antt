@@ -4,14 +4,14 @@ use Rattle.listing.proofs.Laid.{put_put}
 use Rattle.listing.proofs.Listed.{length-fault_line, fault_short}
 use Rattle.listing.proofs.lines.put_fault.Goals as goal
 
-pub put-labelled-at-requires : goal.put-labelled-at-requires
-put-labelled-at-requires c = omega (arith, length-fault_line c.args.words.now c.args.number c.args.entry c.args.byte, fault_short c.args.words.now c.args.number c.args.entry c.args.byte (omega arith) (omega arith) (omega arith), length-append c.args.words.now (decimal c.args.number))
+pub put_labelled-at-requires : goal.put_labelled-at-requires
+put_labelled-at-requires c = omega (arith, length-fault_line c.args.words.now c.args.number c.args.entry c.args.byte, fault_short c.args.words.now c.args.number c.args.entry c.args.byte (omega arith) (omega arith) (omega arith), length-append c.args.words.now (decimal c.args.number))
 
-pub put-labelled-at-requires-2 : goal.put-labelled-at-requires-2
-put-labelled-at-requires-2 c = omega (arith, length-fault_line c.args.words.now c.args.number c.args.entry c.args.byte, fault_short c.args.words.now c.args.number c.args.entry c.args.byte (omega arith) (omega arith) (omega arith), length-append c.args.words.now (decimal c.args.number))
+pub put_labelled-at-requires-2 : goal.put_labelled-at-requires-2
+put_labelled-at-requires-2 c = omega (arith, length-fault_line c.args.words.now c.args.number c.args.entry c.args.byte, fault_short c.args.words.now c.args.number c.args.entry c.args.byte (omega arith) (omega arith) (omega arith), length-append c.args.words.now (decimal c.args.number))
 
-pub put-labelled-at-requires-3 : goal.put-labelled-at-requires-3
-put-labelled-at-requires-3 c = omega (arith, length-fault_line c.args.words.now c.args.number c.args.entry c.args.byte, fault_short c.args.words.now c.args.number c.args.entry c.args.byte (omega arith) (omega arith) (omega arith), length-append c.args.words.now (decimal c.args.number))
+pub put_labelled-at-requires-3 : goal.put_labelled-at-requires-3
+put_labelled-at-requires-3 c = omega (arith, length-fault_line c.args.words.now c.args.number c.args.entry c.args.byte, fault_short c.args.words.now c.args.number c.args.entry c.args.byte (omega arith) (omega arith) (omega arith), length-append c.args.words.now (decimal c.args.number))
 
 pub put-requires : goal.put-requires
 put-requires c = omega (arith, length-fault_line c.args.words.now c.args.number c.args.entry c.args.byte, fault_short c.args.words.now c.args.number c.args.entry c.args.byte (omega arith) (omega arith) (omega arith), length-append c.args.words.now (decimal c.args.number))
@@ -22,4 +22,4 @@ returns c =
     let n = length-fault_line c.args.words.now c.args.number c.args.entry c.args.byte in
     let short = fault_short c.args.words.now c.args.number c.args.entry c.args.byte (omega arith) (omega arith) (omega arith) in
     let m = length-append c.args.words.now (decimal c.args.number) in
-    put_put (put_put (put_put c.put-labelled-at.ensures c.put-labelled-at-2.ensures (omega arith)) c.put-labelled-at-3.ensures (omega arith)) c.put.ensures (omega arith)
+    put_put (put_put (put_put c.put_labelled-at.ensures c.put_labelled-at-2.ensures (omega arith)) c.put_labelled-at-3.ensures (omega arith)) c.put.ensures (omega arith)

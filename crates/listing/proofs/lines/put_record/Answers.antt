@@ -4,11 +4,11 @@ use Rattle.listing.proofs.Laid.{put_put, put_as}
 use Rattle.listing.proofs.Listed.{length-record_line, record_short}
 use Rattle.listing.proofs.lines.put_record.Goals as goal
 
-pub put-labelled-at-requires : goal.put-labelled-at-requires
-put-labelled-at-requires c = omega (arith, length-record_line c.args.record, record_short c.args.record (search rules) c.requires.1)
+pub put_labelled-at-requires : goal.put_labelled-at-requires
+put_labelled-at-requires c = omega (arith, length-record_line c.args.record, record_short c.args.record (search rules) c.requires.1)
 
-pub put-labelled-at-requires-2 : goal.put-labelled-at-requires-2
-put-labelled-at-requires-2 c = omega (arith, length-record_line c.args.record, record_short c.args.record (search rules) c.requires.1)
+pub put_labelled-at-requires-2 : goal.put_labelled-at-requires-2
+put_labelled-at-requires-2 c = omega (arith, length-record_line c.args.record, record_short c.args.record (search rules) c.requires.1)
 
 pub put-at-requires : goal.put-at-requires
 put-at-requires c = omega (arith, length-record_line c.args.record, record_short c.args.record (search rules) c.requires.1)
@@ -33,8 +33,8 @@ returns c =
     let s = ap length c.station_word.ensures in
     let p = ap length c.pile_word.ensures in
     put_put (put_put (put_put (put_put (put_put (put_put
-    c.put-labelled-at.ensures
-    c.put-labelled-at-2.ensures (omega arith))
+    c.put_labelled-at.ensures
+    c.put_labelled-at-2.ensures (omega arith))
     c.put-at.ensures (omega arith))
     (put_as c.station_word.ensures c.put-at-2.ensures) (omega arith))
     c.put-at-3.ensures (omega arith))

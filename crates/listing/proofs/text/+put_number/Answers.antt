@@ -9,14 +9,14 @@ bounds-place-at t c = omega (arith, decimal_nonempty c.args.n (omega arith))
 pub returns-then-n-lt10 : goal.returns-then-n-lt10
 returns-then-n-lt10 t c = put_digit _ _ _ (omega arith) (omega (arith, decimal_nonempty c.args.n (omega arith)))
 
-pub put-number-last-requires : goal.put-number-last-requires
-put-number-last-requires t c = (omega arith, omega (arith, decimal_longer c.args.n (omega arith) (omega arith)))
+pub put_number-last-requires : goal.put_number-last-requires
+put_number-last-requires t c = (omega arith, omega (arith, decimal_longer c.args.n (omega arith) (omega arith)))
 
 pub bounds-place-last : goal.bounds-place-last
 bounds-place-last t c = omega (arith, decimal_longer c.args.n (omega arith) (omega arith))
 
-pub overflow-add-result-2 : goal.overflow-add-result-2
-overflow-add-result-2 t c = omega (arith, decimal_longer c.args.n (omega arith) (omega arith))
+pub overflow_add-result-2 : goal.overflow_add-result-2
+overflow_add-result-2 t c = omega (arith, decimal_longer c.args.n (omega arith) (omega arith))
 
 pub returns : goal.returns
-returns t c = put_digits _ _ _ _ _ (omega arith) (omega arith) c.put-number-last.ensures c.requires (omega arith)
+returns t c = put_digits _ _ _ _ _ (omega arith) (omega arith) c.put_number-last.ensures c.requires (omega arith)

@@ -5,8 +5,8 @@ use Rattle.listing.proofs.text.put_labelled.Goals as goal
 pub put-middle-requires : goal.put-middle-requires
 put-middle-requires c = omega (arith, length-append c.args.label.now (decimal c.args.n))
 
-pub put-number-requires : goal.put-number-requires
-put-number-requires c = omega (arith, length-append c.args.label.now (decimal c.args.n))
+pub put_number-requires : goal.put_number-requires
+put_number-requires c = omega (arith, length-append c.args.label.now (decimal c.args.n))
 
 pub returns : goal.returns
-returns c = put_put c.put-middle.ensures c.put-number.ensures (omega (arith, length-append c.args.label.now (decimal c.args.n)))
+returns c = put_put c.put-middle.ensures c.put_number.ensures (omega (arith, length-append c.args.label.now (decimal c.args.n)))

@@ -16,9 +16,9 @@ returns-in-Ok g c =
     let laid = c.in-Ok.ensures in
     record {
       law = (
-        ap (λ h. unready_text (length c.args.text.now) h c.args.calls.now) (sym c.of-held.ensures) ∙ sym c.in-default.ensures,
-        subst (λ b. Follows piles c.args.calls.now b (state c.make-all.new.strip c.make-all.new.memory) c.make-all.new.answers l) laid.1 (ran_follows piles ok _ _ _ _ c.make-all.ensures.ran l (laid.2 piles)),
+        ap (λ h. unready_text (length c.args.text.now) h c.args.calls.now) (sym c.of-held.ensures) ∙ sym c.in_default.ensures,
+        subst (λ b. Follows piles c.args.calls.now b (state c.make_all.new.strip c.make_all.new.memory) c.make_all.new.answers l) laid.1 (ran_follows piles ok _ _ _ _ c.make_all.ensures.ran l (laid.2 piles)),
       );
-      spare = c.make-all.ensures.spare;
-      blank = c.make-all.ensures.blank;
+      spare = c.make_all.ensures.spare;
+      blank = c.make_all.ensures.blank;
     }

@@ -9,9 +9,9 @@ pub returns : goal.returns
 returns g c =
     let ok = both_lawful (g.met.H.Forkcipher.lawful c.args.home.now) (g.met.A.Forkcipher.lawful c.args.away.now) in
     let held = lengths c.args.memory.now c.args.spare.now c.args.blank.now c.args.answers.now in
-    let ready = ap₂ (λ n h. unready n.count h c.args.calls.now) (sym c.rows.ensures) (sym c.of-held.ensures) ∙ sym c.in-default.ensures in
+    let ready = ap₂ (λ n h. unready n.count h c.args.calls.now) (sym c.rows.ensures) (sym c.of-held.ensures) ∙ sym c.in_default.ensures in
     record {
-      law = (ready, strips_stand _ ok _ (begun _ held c.args.calls.now ready).fit (λ k. search rules), ran_follows _ ok _ _ _ _ c.make-all.ensures.ran);
-      spare = c.make-all.ensures.spare;
-      blank = c.make-all.ensures.blank;
+      law = (ready, strips_stand _ ok _ (begun _ held c.args.calls.now ready).fit (λ k. search rules), ran_follows _ ok _ _ _ _ c.make_all.ensures.ran);
+      spare = c.make_all.ensures.spare;
+      blank = c.make_all.ensures.blank;
     }

@@ -6,5 +6,5 @@ pub returns : goal.returns
 returns c =
     let n = length c.args.text.now in
     let l = length c.args.memory.now in
-    ap₂ ◌++◌ c.copy-from-slice.ensures.after
+    ap₂ ◌++◌ c.copy_from_slice.ensures.after
     (ap (drop (n - 0)) (c.fill.ensures.after (λ y e. e)) ∙ drop-replicate (n - 0) l 0 ∙ ap (λ k. replicate k 0) (omega arith))

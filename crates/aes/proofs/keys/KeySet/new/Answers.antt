@@ -12,12 +12,12 @@ loop-i-init c = keyed_none (replicate 17 c.args.key) refl
 
 pub loop-i-preserved : goal.loop-i-preserved
 loop-i-preserved c =
-    keyed_step bytes c.args.key c.loop-i.rows c.loop-i.i _ (record { bytes = c.next-key-bytes.result })
+    keyed_step bytes c.args.key c.loop-i.rows c.loop-i.i _ (record { bytes = c.next_key-bytes.result })
     c.loop-i.invariant c.loop-i-test.true
-    c.next-key-bytes.ensures
+    c.next_key-bytes.ensures
 
-pub invariant-of-result : goal.invariant-of-result
-invariant-of-result c =
+pub invariant_of-result : goal.invariant_of-result
+invariant_of-result c =
     let rows = map bytes c.loop-i.rows in
     let made = keyed_all c.args.key rows c.loop-i.i c.loop-i.invariant c.loop-i-test.false in
     (scheduled c.args.key rows (search rules, λ j. search rules) made, tt)

@@ -21,4 +21,4 @@ returns-then-eq g c =
 pub returns : goal.returns
 returns g c =
     let ok = both_lawful (g.met.H.Forkcipher.lawful c.args.home.now) (g.met.A.Forkcipher.lawful c.args.away.now) in
-    by_rows _ ok _ _ _ c.same-plain.ensures
+    by_rows _ ok _ _ _ c.same_plain.ensures
