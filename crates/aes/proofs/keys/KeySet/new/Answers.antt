@@ -20,7 +20,7 @@ pub invariant_of-result : goal.invariant_of-result
 invariant_of-result c =
     let rows = map bytes c.loop-i.rows in
     let made = keyed_all c.args.key rows c.loop-i.i c.loop-i.invariant c.loop-i-test.false in
-    (scheduled c.args.key rows (search rules, λ j. search rules) made, tt)
+    record { scheduled = scheduled c.args.key rows (search rules, λ j. search rules) made }
 
 pub returns : goal.returns
 unfolding schedule round_key
