@@ -119,7 +119,7 @@ fn parts(rt: &HostRuntime, file: StripFile<'_>) -> anyhow::Result<usize> {
         Err(_) => false,
     };
     let body = match file.body(1) {
-        Ok(bytes) => bytes == b"and two of the  second, all here",
+        Ok(bytes) => bytes == b"and two of the  second, all here".as_slice(),
         Err(_) => false,
     };
     println!(rt; "entry 1: fields {last}, place {place}, body {body}")?;

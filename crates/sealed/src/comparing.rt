@@ -22,7 +22,7 @@ impl Strip {
         requires memory_len { length memory.now ≡ 16 * self.now.rows.count }
         requires others_len { length others.now ≡ 16 * other.now.rows.count }
         requires row_lt_count { row < self.now.rows.count }
-        requires row_lt_count_2 { row < other.now.rows.count }
+        requires row_lt_others_count { row < other.now.rows.count }
         ensures { Decides result (
             row_of (both (H.Forkcipher.maps home.now) (A.Forkcipher.maps away.now)) self.now memory.now row
             ≡ row_of (both (H.Forkcipher.maps home.now) (A.Forkcipher.maps away.now)) other.now others.now row) }
@@ -41,7 +41,7 @@ impl Strip {
     ) -> bool
         requires memory_len { length memory.now ≡ 16 * self.now.rows.count }
         requires others_len { length others.now ≡ 16 * other.now.rows.count }
-        requires count_value { self.now.rows.count ≡ other.now.rows.count }
+        requires same_count { self.now.rows.count ≡ other.now.rows.count }
         ensures { Decides result (
             (ledger_of (both (H.Forkcipher.maps home.now) (A.Forkcipher.maps away.now)) (state self.now memory.now)).rows
             ≡ (ledger_of (both (H.Forkcipher.maps home.now) (A.Forkcipher.maps away.now)) (state other.now others.now)).rows) }

@@ -1,4 +1,4 @@
-use Rattle.std.proofs.Common.{◌≡◌, refl, arith}
+use Rattle.std.proofs.Common.{◌≡◌, refl, arith, rules}
 use Rattle.std.proofs.lemmas.Slice.Eq.{slice_eq-Decides}
 use Rattle.ledgers.proofs.Places.{both_lawful}
 use Rattle.sealed.proofs.Compared.{by_bytes, by_count, by_rows}
@@ -13,8 +13,7 @@ returns-then-get g c =
 pub returns-then-eq : goal.returns-then-eq
 returns-then-eq g c =
     let ok = both_lawful (g.met.H.Forkcipher.lawful c.args.home.now) (g.met.A.Forkcipher.lawful c.args.away.now) in
-    let h = c.if-eq.ensures in
-    let place : c.args.self.now.place ≡ c.args.other.now.place = λ i. record { number = h.0.0 refl i; station = h.1.0 i; pile = h.1.1 i } in
+    let place : c.args.self.now.place ≡ c.args.other.now.place = search rules in
     let count : c.args.self.now.rows.count ≡ c.args.other.now.rows.count = omega arith in
     by_bytes _ ok _ _ _ count place (slice_eq-Decides Decides-eqb _ _ _ c.eq-then-eq.ensures)
 

@@ -9,7 +9,7 @@ returns-then-not-same_row g c =
     let piles = both (g.H.Forkcipher.maps c.args.home.now) (g.A.Forkcipher.maps c.args.away.now) in
     let inside : c.loop-row.row < c.args.self.now.rows.count = omega arith in (
       (λ z. absurd (true≢false (sym z))),
-      (λ e. c.if-not-same_row.ensures.1 (one_same piles c.args.self.now c.args.other.now c.args.memory.now c.args.others.now c.requires.2 c.loop-row.row inside e)),
+      (λ e. c.if-not-same_row.ensures.1 (one_same piles c.args.self.now c.args.other.now c.args.memory.now c.args.others.now c.requires.same_count c.loop-row.row inside e)),
     )
 
 pub loop-row-preserved : goal.loop-row-preserved
@@ -19,6 +19,6 @@ pub returns : goal.returns
 returns g c =
     let piles = both (g.H.Forkcipher.maps c.args.home.now) (g.A.Forkcipher.maps c.args.away.now) in
     let all : c.args.self.now.rows.count ≤ c.loop-row.row = omega arith in (
-      (λ _. each_same piles c.args.self.now c.args.other.now c.args.memory.now c.args.others.now c.requires.2 (λ k lt. c.loop-row.invariant k (omega arith))),
+      (λ _. each_same piles c.args.self.now c.args.other.now c.args.memory.now c.args.others.now c.requires.same_count (λ k lt. c.loop-row.invariant k (omega arith))),
       (λ _. refl),
     )
