@@ -145,7 +145,7 @@ pub(crate) fn hand<H: Forkcipher, A: Forkcipher>(
     call: Call,
 ) -> Answer
     requires memory_len { length memory.old ≡ 16 * strip.old.rows.count }
-    requires call_value { served strip.old.rows.count (length spare.old) (length blank.old) call ≡ true }
+    requires call_served { served strip.old.rows.count (length spare.old) (length blank.old) call ≡ true }
     ensures made { Made
         (both (H.Forkcipher.maps home.now) (A.Forkcipher.maps away.now))
         call (state strip.old memory.old) (state strip.new memory.new) result }

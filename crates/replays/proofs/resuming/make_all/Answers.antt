@@ -19,10 +19,11 @@ pub hand-answer-requires : goal.hand-answer-requires
 hand-answer-requires g c =
     let b = begun _ _ _ c.requires in
     let rows = c.loop-i.invariant.0.rows in
-    let now = All-get_or (λ x. served c.args.strip.now.rows.count (length c.args.spare.now) (length c.args.blank.now) x ≡ true) c.args.calls.now c.loop-i.i none c.loop-i-test.true b.room in (
-      c.loop-i.auto.memory ∙ b.fit ∙ ap (λ n. 16 * n) (sym rows),
-      served_kept (get_or c.args.calls.now c.loop-i.i none) rows c.loop-i.auto.spare c.loop-i.auto.blank now,
-    )
+    let now = All-get_or (λ x. served c.args.strip.now.rows.count (length c.args.spare.now) (length c.args.blank.now) x ≡ true) c.args.calls.now c.loop-i.i none c.loop-i-test.true b.room in
+    record {
+      memory_len = c.loop-i.auto.memory ∙ b.fit ∙ ap (λ n. 16 * n) (sym rows);
+      call_served = served_kept (get_or c.args.calls.now c.loop-i.i none) rows c.loop-i.auto.spare c.loop-i.auto.blank now;
+    }
 
 pub loop-i-preserved : goal.loop-i-preserved
 loop-i-preserved g c =
