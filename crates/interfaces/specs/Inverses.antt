@@ -1,6 +1,6 @@
 -- Inverses made of inverses.
 -- Assumes nothing.
-use Rattle.std.specs.Prelude.{◌≡◌, ℕ, List}
+use Rattle.std.specs.Prelude.{ℕ, List}
 use Rattle.std.proofs.Common.{ap, ◌∙◌}
 use Rattle.aes.specs.Block.{Bytes, xored}
 use Rattle.aes.proofs.Blocks.{xored_bytes, xored_twice}

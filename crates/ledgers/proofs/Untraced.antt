@@ -12,7 +12,7 @@ use Rattle.ledgers.specs.declared.call.Act.{Act}
 use Rattle.ledgers.specs.declared.call.Act.TheVariants.{Write, Exchange, Convert, Read, Stamp}
 use Rattle.ledgers.specs.declared.call.Answer.TheVariants.{Shown, Done}
 use Rattle.ledgers.specs.Rows.{Piles}
-use Rattle.ledgers.specs.Ledgers.{Ledger, unless, first, fits, refusal, changed, accepted, kept_or, refused_or, ledger_step, ledger_run, ledger_answers}
+use Rattle.ledgers.specs.Ledgers.{Ledger, unless, first, fits, refusal, changed, kept_or, refused_or, ledger_step, ledger_run, ledger_answers}
 use Rattle.ledgers.specs.Struck.{Kind, turns, renumbers, transfers, kind, same_kind, later, struck, row_answers}
 
 -- without the conversions that leave no trace, row calls answer alike and the end is the same

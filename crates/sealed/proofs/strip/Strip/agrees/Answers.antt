@@ -1,4 +1,4 @@
-use Rattle.std.proofs.Common.{◌≡◌, refl, arith, rules}
+use Rattle.std.proofs.Common.{◌≡◌, arith, rules}
 use Rattle.std.proofs.lemmas.Slice.Eq.{slice_eq-Decides}
 use Rattle.ledgers.proofs.Places.{both_lawful}
 use Rattle.sealed.proofs.Compared.{by_bytes, by_count, by_rows}
