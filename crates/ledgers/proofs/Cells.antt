@@ -2,18 +2,18 @@
 use Rattle.std.proofs.Common.{◌≡◌, ℕ, zero, suc, ◌+◌, ◌*◌, ◌<◌, ◌≤◌, ◌≢◌, List, [], ◌∷◌, ◌++◌, length, get_or, take, drop, set, sym, refl, ap, ◌∙◌, subst, ap₂, le_of_suc-le-suc, not-suc-le-zero, add-zero, add-suc, suc-add, zero-add, arith, take-add, below_more}
 use Rattle.std.proofs.lemmas.List.{take_at, drop_at, length-append, drop-drop, length-drop, take-append-drop, nil_from_length, length-take-le, append_assoc, length-set, get_or-set_same, get_or-set_other, ext_get_or}
 use Rattle.std.proofs.ByRecursion.{All-set}
-use Rattle.std.specs.List.{AllByRecursion as All}
+use Rattle.std.specs.List.{AllByRecursion}
 use Rattle.ledgers.specs.Rows.{each_row, flat, cells}
 
 -- a block's length is all that matters here
 abbrev pub Sized : List ℕ → Type 0
 Sized b = length b ≡ 16
 
-pub length-flat : (bs : List (List ℕ)) → All Sized bs → length (flat bs) ≡ 16 * length bs
+pub length-flat : (bs : List (List ℕ)) → AllByRecursion Sized bs → length (flat bs) ≡ 16 * length bs
 length-flat [] h = refl
 length-flat (b ∷ bs) h = omega (arith, length-append b (flat bs), h.0, length-flat bs h.1)
 
-pub cells-flat : (bs : List (List ℕ)) → All Sized bs → cells (length bs) (flat bs) ≡ bs
+pub cells-flat : (bs : List (List ℕ)) → AllByRecursion Sized bs → cells (length bs) (flat bs) ≡ bs
 cells-flat [] h = refl
 cells-flat (b ∷ bs) h =
     ap₂ ◌∷◌ (take_at b (flat bs) 16 h.0) (ap (cells (length bs)) (drop_at b (flat bs) 16 h.0) ∙ cells-flat bs h.1)
@@ -53,14 +53,14 @@ module _ (f : ℕ → List ℕ → List ℕ) where
   set_each_row k (a ∷ bs) (suc i) b =
       ap (λ j. f k a ∷ set (each_row f (suc k) bs) i (f j b)) (add-suc k i ∙ sym (suc-add k i)) ∙ ap (λ cs. f k a ∷ cs) (set_each_row (suc k) bs i b)
 
-  pub all_each_row : (P Q : List ℕ → Type 0) → ((k : ℕ) (b : List ℕ) → P b → Q (f k b)) → (k : ℕ) (bs : List (List ℕ)) → All P bs → All Q (each_row f k bs)
+  pub all_each_row : (P Q : List ℕ → Type 0) → ((k : ℕ) (b : List ℕ) → P b → Q (f k b)) → (k : ℕ) (bs : List (List ℕ)) → AllByRecursion P bs → AllByRecursion Q (each_row f k bs)
   all_each_row P Q g k [] h = tt
   all_each_row P Q g k (b ∷ bs) h = (g k b h.0, all_each_row P Q g (suc k) bs h.1)
 
 -- two functions over the rows, one after the other
 pub each_row_twice :
     (f g h : ℕ → List ℕ → List ℕ) (P : List ℕ → Type 0) → ((k : ℕ) (b : List ℕ) → P b → g k (f k b) ≡ h k b)
-    → (k : ℕ) (bs : List (List ℕ)) → All P bs → each_row g k (each_row f k bs) ≡ each_row h k bs
+    → (k : ℕ) (bs : List (List ℕ)) → AllByRecursion P bs → each_row g k (each_row f k bs) ≡ each_row h k bs
 each_row_twice f g h P e k [] a = refl
 each_row_twice f g h P e k (b ∷ bs) a = ap₂ ◌∷◌ (e k b a.0) (each_row_twice f g h P e (suc k) bs a.1)
 
@@ -69,12 +69,12 @@ each_row_same k [] = refl
 each_row_same k (b ∷ bs) = ap (λ cs. b ∷ cs) (each_row_same (suc k) bs)
 
 -- ---- one row put into bytes
-length-flat_set : (bs : List (List ℕ)) (i : ℕ) (b : List ℕ) → All Sized bs → i < length bs → length (flat (set bs i b)) + 16 ≡ 16 * length bs + length b
+length-flat_set : (bs : List (List ℕ)) (i : ℕ) (b : List ℕ) → AllByRecursion Sized bs → i < length bs → length (flat (set bs i b)) + 16 ≡ 16 * length bs + length b
 length-flat_set [] i b h lt = absurd (not-suc-le-zero lt)
 length-flat_set (a ∷ bs) zero b h lt = omega (arith, length-append b (flat bs), length-flat bs h.1)
 length-flat_set (a ∷ bs) (suc i) b h lt = omega (arith, length-append a (flat (set bs i b)), h.0, length-flat_set bs i b h.1 (le_of_suc-le-suc lt))
 
-pub sized_cells : (n : ℕ) (bytes : List ℕ) → length bytes ≡ 16 * n → All Sized (cells n bytes)
+pub sized_cells : (n : ℕ) (bytes : List ℕ) → length bytes ≡ 16 * n → AllByRecursion Sized (cells n bytes)
 sized_cells zero bytes e = tt
 sized_cells (suc n) bytes e = (length-take-le 16 bytes (omega arith), sized_cells n (drop 16 bytes) (omega (arith, length-drop 16 bytes)))
 

@@ -1,7 +1,7 @@
 -- All the calls of a list are made: what the strip answered and where it ended is what the laws say.
 -- Assumes nothing.
 use Rattle.std.proofs.Common.{◌≡◌, ℕ, Bool, true, false, cond, List, [], ◌∷◌, length, sym, ap, ◌∙◌, subst}
-use Rattle.std.specs.List.{AllByRecursion as All}
+use Rattle.std.specs.List.{AllByRecursion}
 use Rattle.ledgers.specs.declared.call.Call.{Call}
 use Rattle.ledgers.specs.declared.call.Answer.{Answer}
 use Rattle.ledgers.specs.Rows.{Piles}
@@ -13,17 +13,17 @@ use Rattle.ledgers.proofs.Steps.{state_of, stands_is, run_both, keeps_up}
 use Rattle.ledgers.proofs.Striking.{struck_right}
 use Rattle.ledgers.proofs.Untraced.{untraced}
 
-sound_struck : (n : ℕ) (cs : List Call) → All Sound cs → All Sound (struck n cs)
+sound_struck : (n : ℕ) (cs : List Call) → AllByRecursion Sound cs → AllByRecursion Sound (struck n cs)
 sound_struck n [] h = tt
 sound_struck n (c ∷ cs) h = go (stays n (fits n c.memory) cs c.act) (sound_struck n cs h.1)
   where
-    go : (b : Bool) → All Sound (struck n cs) → All Sound (cond b (c ∷ struck n cs) (struck n cs))
+    go : (b : Bool) → AllByRecursion Sound (struck n cs) → AllByRecursion Sound (cond b (c ∷ struck n cs) (struck n cs))
     go true rest = (h.0, rest)
     go false rest = rest
 
 module _ (piles : Piles) (ok : BothLawful piles) where
   -- what the ledger says of struck lists, said of the strip and its bytes
-  module _ (cs : List Call) (sound : All Sound cs) (s : State) (l : Ledger) (h : StandsFor piles s l) where
+  module _ (cs : List Call) (sound : AllByRecursion Sound cs) (s : State) (l : Ledger) (h : StandsFor piles s l) where
     abbrev ds : List Call
     ds = struck s.rows cs
 

@@ -2,7 +2,7 @@
 use Rattle.std.proofs.Common.{◌≡◌, ℕ, ◌+◌, ◌*◌, ◌<◌, ◌≤◌, List, [], ◌∷◌, ◌++◌, length, get_or, take, drop, set, Some, None, Option, sym, refl, ap, ◌∙◌, subst, ap₂}
 use Rattle.std.proofs.lemmas.List.{drop_more, take_more, take_more_set, append_assoc, append-nil, take_all, drop_all}
 use Rattle.std.proofs.ByRecursion.{All-push}
-use Rattle.std.specs.List.{AllByRecursion as All}
+use Rattle.std.specs.List.{AllByRecursion}
 use Rattle.strips.specs.declared.fault.StripFault.{StripFault}
 use Rattle.strips.specs.declared.fault.StripFault.TheVariants.{WrongMemory}
 use Rattle.ledgers.specs.declared.call.Call.{Call}
@@ -18,7 +18,7 @@ pub record Going (piles : Piles) (calls : List Call) (start now : State) (i : �
   pub rows : now.rows ≡ start.rows
   pub end : run piles (drop i calls) now ≡ run piles calls start
   pub answers : take i told ++ run_answers piles (drop i calls) now ≡ run_answers piles calls start
-  pub sound : All Sound (take i calls)
+  pub sound : AllByRecursion Sound (take i calls)
 
 module _ (piles : Piles) where
   pub step-rows : (c : Call) (s : State) → (step piles c s).rows ≡ s.rows
@@ -54,7 +54,7 @@ module _ (piles : Piles) where
             ∙ append_assoc (take i told) (step_answer piles c now ∷ []) _
             ∙ ap (λ more. take i told ++ more) (sym (ap (λ cs. run_answers piles cs now) left))
             ∙ g.answers;
-        sound = subst (All Sound) (sym (take_more calls i c lt ∙ ap (λ x. take i calls ++ (x ∷ [])) (sym is))) (All-push Sound (take i calls) c g.sound made.sound);
+        sound = subst (AllByRecursion Sound) (sym (take_more calls i c lt ∙ ap (λ x. take i calls ++ (x ∷ [])) (sym is))) (All-push Sound (take i calls) c g.sound made.sound);
       }
 
   -- all are done
@@ -64,5 +64,5 @@ module _ (piles : Piles) where
       record {
         end = sym (ap (λ cs. run piles cs now) none) ∙ g.end;
         answered = sym (append-nil told) ∙ ap₂ ◌++◌ (sym (take_all i told k)) (sym (ap (λ cs. run_answers piles cs now) none)) ∙ g.answers;
-        sound = subst (All Sound) (take_all i calls h) g.sound;
+        sound = subst (AllByRecursion Sound) (take_all i calls h) g.sound;
       }

@@ -2,7 +2,7 @@
 use Rattle.std.proofs.Common.{◌≡◌, ℕ, zero, suc, ◌+◌, ◌*◌, ◌^◌, ◌<◌, List, [], ◌∷◌, ◌++◌, length, get_or, take, drop, replicate, sym, refl, ap, ◌∙◌, subst, zero-add, arith, lit<}
 use Rattle.std.proofs.lemmas.List.{ext_get_or, get_or-drop, length-drop, length-take-le}
 use Rattle.std.proofs.ByRecursion.{All-get_or}
-use Rattle.std.specs.List.{AllByRecursion as All}
+use Rattle.std.specs.List.{AllByRecursion}
 use Rattle.aes.specs.Block.{Bytes}
 use Rattle.interfaces.specs.Numbers.{big_endian}
 use Rattle.interfaces.specs.Maps.{Lawful, Maps}
@@ -56,7 +56,7 @@ small_take (suc n) [] h k = h k
 small_take (suc n) (x ∷ xs) h zero = h 0
 small_take (suc n) (x ∷ xs) h (suc k) = small_take n xs (λ j. h (suc j)) k
 
-pub cell_blocks : (n : ℕ) (bytes : List ℕ) → length bytes ≡ 16 * n → Small bytes → All IsBlock (cells n bytes)
+pub cell_blocks : (n : ℕ) (bytes : List ℕ) → length bytes ≡ 16 * n → Small bytes → AllByRecursion IsBlock (cells n bytes)
 cell_blocks zero bytes e h = tt
 cell_blocks (suc n) bytes e h = (
   (length-take-le 16 bytes (omega arith), small_take 16 bytes h),
@@ -94,18 +94,18 @@ module _ (piles : Piles) (ok : BothLawful piles) where
   pub stored_back : (p : Place) (k : ℕ) (b : List ℕ) → IsBlock b → plain piles p k (stored piles p k b) ≡ b
   stored_back p k b hb = at_back (piles p.pile) (ok p.pile) _ b (tweak_bytes 0 p.number k) hb p.station
 
-  pub stored_sized : (p : Place) (rows : List (List ℕ)) → All IsBlock rows → All Sized (each_row (stored piles p) 0 rows)
+  pub stored_sized : (p : Place) (rows : List (List ℕ)) → AllByRecursion IsBlock rows → AllByRecursion Sized (each_row (stored piles p) 0 rows)
   stored_sized p rows h = all_each_row (stored piles p) IsBlock Sized (λ k b hb. (stored_block p k b hb).0) 0 rows h
 
-  pub cells-sealed : (p : Place) (rows : List (List ℕ)) → All IsBlock rows → cells (length rows) (sealed piles p rows) ≡ each_row (stored piles p) 0 rows
+  pub cells-sealed : (p : Place) (rows : List (List ℕ)) → AllByRecursion IsBlock rows → cells (length rows) (sealed piles p rows) ≡ each_row (stored piles p) 0 rows
   cells-sealed p rows h =
       ap (λ n. cells n (sealed piles p rows)) (sym (length_each_row (stored piles p) 0 rows)) ∙ cells-flat _ (stored_sized p rows h)
 
   -- the rows come out again
-  pub rows_back : (p : Place) (rows : List (List ℕ)) → All IsBlock rows → each_row (plain piles p) 0 (each_row (stored piles p) 0 rows) ≡ rows
+  pub rows_back : (p : Place) (rows : List (List ℕ)) → AllByRecursion IsBlock rows → each_row (plain piles p) 0 (each_row (stored piles p) 0 rows) ≡ rows
   rows_back p rows h = each_row_twice (stored piles p) (plain piles p) (λ _ b. b) IsBlock (stored_back p) 0 rows h ∙ each_row_same 0 rows
 
-  pub opened-sealed : (p : Place) (rows : List (List ℕ)) → All IsBlock rows → opened piles p (length rows) (sealed piles p rows) ≡ rows
+  pub opened-sealed : (p : Place) (rows : List (List ℕ)) → AllByRecursion IsBlock rows → opened piles p (length rows) (sealed piles p rows) ≡ rows
   opened-sealed p rows h = ap (each_row (plain piles p) 0) (cells-sealed p rows h) ∙ rows_back p rows h
 
   pub stands_sealed : (s : State) (l : Ledger) → StandsFor piles s l → s.bytes ≡ sealed piles s.place l.rows
@@ -120,7 +120,7 @@ module _ (piles : Piles) (ok : BothLawful piles) where
       get_or-cells s.rows s.bytes k inside ∙ h.each k inside
       ∙ sym (get_or-each_row f 0 l.rows k [] below ∙ ap (λ j. f j (get_or l.rows k [])) (zero-add k))))
 
-  pub sealed_stands : (l : Ledger) → All IsBlock l.rows → StandsFor piles (record { rows = length l.rows; place = l.place; bytes = sealed piles l.place l.rows }) l
+  pub sealed_stands : (l : Ledger) → AllByRecursion IsBlock l.rows → StandsFor piles (record { rows = length l.rows; place = l.place; bytes = sealed piles l.place l.rows }) l
   sealed_stands l h =
       let f = stored piles l.place in
       let rows = l.rows in

@@ -4,7 +4,7 @@ use Rattle.std.proofs.Common.{◌≡◌, ℕ, zero, suc, ◌+◌, ◌<◌, ◌�
 use lib.Bits.{bit_xor, xor_comm}
 use Rattle.std.proofs.lemmas.List.{drop_all, drop_more, length-set}
 use Rattle.std.proofs.ByRecursion.{All-get_or}
-use Rattle.std.specs.List.{AllByRecursion as All}
+use Rattle.std.specs.List.{AllByRecursion}
 use Rattle.aes.specs.Block.{at, xored}
 use Rattle.aes.proofs.Blocks.{xored_bytes, xored_twice}
 use Rattle.aes.proofs.Table.{same_table}
@@ -70,14 +70,14 @@ module _ (f : ℕ → List ℕ → List ℕ) (block : (k : ℕ) (b : List ℕ) �
   added : (sum : List ℕ) (k : ℕ) (b : List ℕ) → IsBlock sum → IsBlock b → IsBlock (xored 16 sum (f k b))
   added sum k b hs hb = xored_bytes 16 sum (f k b) hs.1 (block k b hb).1
 
-  mixed_cancel : (xs ys : List ℕ) (k : ℕ) (bs : List (List ℕ)) → IsBlock xs → IsBlock ys → All IsBlock bs → mixed f xs k bs ≡ mixed f ys k bs → xs ≡ ys
+  mixed_cancel : (xs ys : List ℕ) (k : ℕ) (bs : List (List ℕ)) → IsBlock xs → IsBlock ys → AllByRecursion IsBlock bs → mixed f xs k bs ≡ mixed f ys k bs → xs ≡ ys
   mixed_cancel xs ys k [] hx hy h e = e
   mixed_cancel xs ys k (b ∷ bs) hx hy h e =
       cancel xs ys (f k b) hx hy
       (mixed_cancel (xored 16 xs (f k b)) (xored 16 ys (f k b)) (suc k) bs (added xs k b hx h.0) (added ys k b hy h.0) h.1 e)
 
   -- where one row is another, that row's part is the same
-  mixed_one : (sum : List ℕ) (k : ℕ) (bs : List (List ℕ)) (i : ℕ) (c : List ℕ) → IsBlock sum → All IsBlock bs → IsBlock c → i < length bs
+  mixed_one : (sum : List ℕ) (k : ℕ) (bs : List (List ℕ)) (i : ℕ) (c : List ℕ) → IsBlock sum → AllByRecursion IsBlock bs → IsBlock c → i < length bs
       → mixed f sum k bs ≡ mixed f sum k (set bs i c) → f (k + i) (get_or bs i []) ≡ f (k + i) c
   mixed_one sum k [] i c hs h hc lt e = absurd (not-suc-le-zero lt)
   mixed_one sum k (b ∷ bs) zero c hs h hc lt e =
@@ -104,7 +104,7 @@ module _ (m : Maps) (ok : Lawful m) (number : ℕ) where
   abbrev pub stamp_by : List (List ℕ) → List ℕ
   stamp_by rows = mixed (right_of m number) (head_of m number (length rows)) 0 rows
 
-  pub stamp_one : (rows : List (List ℕ)) (i : ℕ) (c : List ℕ) → All IsBlock rows → IsBlock c → i < length rows → stamp_by rows ≡ stamp_by (set rows i c) → get_or rows i [] ≡ c
+  pub stamp_one : (rows : List (List ℕ)) (i : ℕ) (c : List ℕ) → AllByRecursion IsBlock rows → IsBlock c → i < length rows → stamp_by rows ≡ stamp_by (set rows i c) → get_or rows i [] ≡ c
   stamp_one rows i c h hc lt e =
       right_tells (0 + i) (get_or rows i []) c (All-get_or IsBlock rows i [] lt h) hc
       (mixed_one (right_of m number) right_block (head_of m number (length rows)) 0 rows i c (head_block (length rows)) h hc lt

@@ -3,7 +3,7 @@ use Rattle.std.proofs.Common.{◌≡◌, ℕ, ◌*◌, ◌<◌, Bool, true, fals
 use Rattle.std.proofs.lemmas.List.{length-set}
 use Rattle.std.proofs.lemmas.Bool.{ltb-true, ne_eqb, eqb-true}
 use Rattle.std.proofs.ByRecursion.{All-get_or, All-set}
-use Rattle.std.specs.List.{AllByRecursion as All}
+use Rattle.std.specs.List.{AllByRecursion}
 use Rattle.strips.specs.declared.place.Place.{Place}
 use Rattle.strips.specs.declared.fault.StripFault.{StripFault}
 use Rattle.strips.specs.declared.fault.StripFault.TheVariants.{WrongMemory, NoSuchRow}
@@ -52,7 +52,7 @@ abbrev pub state_of : Piles → Ledger → State
 state_of piles l = record { rows = length l.rows; place = l.place; bytes = sealed piles l.place l.rows }
 
 module _ (piles : Piles) (ok : BothLawful piles) where
-  row_plain : (p : Place) (rows : List (List ℕ)) (i : ℕ) → All IsBlock rows → i < length rows → plain_row piles p (each_row (stored piles p) 0 rows) i ≡ get_or rows i []
+  row_plain : (p : Place) (rows : List (List ℕ)) (i : ℕ) → AllByRecursion IsBlock rows → i < length rows → plain_row piles p (each_row (stored piles p) 0 rows) i ≡ get_or rows i []
   row_plain p rows i h lt =
       ap (plain piles p i) (get_or-each_row (stored piles p) 0 rows i [] lt ∙ ap (λ j. stored piles p j (get_or rows i [])) (zero-add i))
       ∙ stored_back piles ok p i (get_or rows i []) (All-get_or IsBlock rows i [] lt h)
@@ -61,7 +61,7 @@ module _ (piles : Piles) (ok : BothLawful piles) where
   put_row p rows i b = ap (λ j. set (each_row (stored piles p) 0 rows) i (stored piles p j b)) (sym (zero-add i)) ∙ set_each_row (stored piles p) 0 rows i b
 
   -- an accepted call does to the stored rows what the ledger does to the rows
-  cells_follow : (a : Act) (l : Ledger) → All IsBlock l.rows → act_refusal (length l.rows) a ≡ None
+  cells_follow : (a : Act) (l : Ledger) → AllByRecursion IsBlock l.rows → act_refusal (length l.rows) a ≡ None
       → cells_after piles a l.place (each_row (stored piles l.place) 0 l.rows) ≡ each_row (stored piles (accepted a l).place) 0 (accepted a l).rows
   cells_follow (Write i b) l h e = put_row l.place l.rows i b
   cells_follow (Exchange i j) l h e =
@@ -79,7 +79,7 @@ module _ (piles : Piles) (ok : BothLawful piles) where
   cells_follow (Read i m) l h e = refl
   cells_follow (Stamp m) l h e = refl
 
-  reply_follows : (a : Act) (l : Ledger) → All IsBlock l.rows → act_refusal (length l.rows) a ≡ None → reply piles a (state_of piles l) ≡ answer_of piles a l
+  reply_follows : (a : Act) (l : Ledger) → AllByRecursion IsBlock l.rows → act_refusal (length l.rows) a ≡ None → reply piles a (state_of piles l) ≡ answer_of piles a l
   reply_follows (Write i b) l h e = refl
   reply_follows (Exchange i j) l h e = refl
   reply_follows (Convert d) l h e = refl
@@ -105,7 +105,7 @@ module _ (piles : Piles) (ok : BothLawful piles) where
   accepted_place (Read i m) l = refl
   accepted_place (Stamp m) l = refl
 
-  accepted_blocks : (a : Act) (l : Ledger) → SoundAct a → All IsBlock l.rows → act_refusal (length l.rows) a ≡ None → All IsBlock (accepted a l).rows
+  accepted_blocks : (a : Act) (l : Ledger) → SoundAct a → AllByRecursion IsBlock l.rows → act_refusal (length l.rows) a ≡ None → AllByRecursion IsBlock (accepted a l).rows
   accepted_blocks (Write i b) l sound h e = All-set IsBlock l.rows i b sound h
   accepted_blocks (Exchange i j) l sound h e =
       let rows = l.rows in
@@ -117,7 +117,7 @@ module _ (piles : Piles) (ok : BothLawful piles) where
   accepted_blocks (Read i m) l sound h e = h
   accepted_blocks (Stamp m) l sound h e = h
 
-  act_follows : (a : Act) (l : Ledger) → All IsBlock l.rows → act_refusal (length l.rows) a ≡ None → carried piles a (state_of piles l) ≡ state_of piles (accepted a l)
+  act_follows : (a : Act) (l : Ledger) → AllByRecursion IsBlock l.rows → act_refusal (length l.rows) a ≡ None → carried piles a (state_of piles l) ≡ state_of piles (accepted a l)
   act_follows a l h e =
       let bytes : flat (cells_after piles a l.place (cells (length l.rows) (sealed piles l.place l.rows))) ≡ sealed piles (accepted a l).place (accepted a l).rows
       = ap flat (ap (cells_after piles a l.place) (cells-sealed piles ok l.place l.rows h) ∙ cells_follow a l h e) in
@@ -129,9 +129,9 @@ module _ (piles : Piles) (ok : BothLawful piles) where
   pub record Stepped (c : Call) (l : Ledger) : Type 0 where
     pub state : step piles c (state_of piles l) ≡ state_of piles (ledger_step c l)
     pub answer : step_answer piles c (state_of piles l) ≡ ledger_answer piles c l
-    pub blocks : All IsBlock (ledger_step c l).rows
+    pub blocks : AllByRecursion IsBlock (ledger_step c l).rows
 
-  pub stepped : (c : Call) (l : Ledger) → Sound c → All IsBlock l.rows → Stepped c l
+  pub stepped : (c : Call) (l : Ledger) → Sound c → AllByRecursion IsBlock l.rows → Stepped c l
   stepped c l sound h = record { state = state-at _ refl; answer = answer_at _ refl; blocks = blocks_at _ refl }
     where
       state-at : (r : Option StripFault) → refusal (length l.rows) c ≡ r → kept_or r (state_of piles l) (carried piles c.act (state_of piles l)) ≡ state_of piles (kept_or r l (accepted c.act l))
@@ -143,28 +143,28 @@ module _ (piles : Piles) (ok : BothLawful piles) where
       answer_at (Some f) e = refl
       answer_at None e = reply_follows c.act l h (act_passed (length l.rows) c e)
 
-      blocks_at : (r : Option StripFault) → refusal (length l.rows) c ≡ r → All IsBlock (kept_or r l (accepted c.act l)).rows
+      blocks_at : (r : Option StripFault) → refusal (length l.rows) c ≡ r → AllByRecursion IsBlock (kept_or r l (accepted c.act l)).rows
       blocks_at (Some f) e = h
       blocks_at None e = accepted_blocks c.act l sound h (act_passed (length l.rows) c e)
 
   -- any list of calls
-  run_state : (cs : List Call) (l : Ledger) → All Sound cs → All IsBlock l.rows → run piles cs (state_of piles l) ≡ state_of piles (ledger_run cs l)
+  run_state : (cs : List Call) (l : Ledger) → AllByRecursion Sound cs → AllByRecursion IsBlock l.rows → run piles cs (state_of piles l) ≡ state_of piles (ledger_run cs l)
   run_state [] l sound h = refl
   run_state (c ∷ cs) l sound h =
       let one = stepped c l sound.0 h in
       ap (run piles cs) one.state ∙ run_state cs (ledger_step c l) sound.1 one.blocks
 
-  run_told : (cs : List Call) (l : Ledger) → All Sound cs → All IsBlock l.rows → run_answers piles cs (state_of piles l) ≡ ledger_answers piles cs l
+  run_told : (cs : List Call) (l : Ledger) → AllByRecursion Sound cs → AllByRecursion IsBlock l.rows → run_answers piles cs (state_of piles l) ≡ ledger_answers piles cs l
   run_told [] l sound h = refl
   run_told (c ∷ cs) l sound h =
       let one = stepped c l sound.0 h in
       ap₂ ◌∷◌ one.answer (ap (run_answers piles cs) one.state ∙ run_told cs (ledger_step c l) sound.1 one.blocks)
 
-  pub run_both : (cs : List Call) (l : Ledger) → All Sound cs → All IsBlock l.rows
+  pub run_both : (cs : List Call) (l : Ledger) → AllByRecursion Sound cs → AllByRecursion IsBlock l.rows
       → (run piles cs (state_of piles l) ≡ state_of piles (ledger_run cs l)) × (run_answers piles cs (state_of piles l) ≡ ledger_answers piles cs l)
   run_both cs l sound h = (run_state cs l sound h, run_told cs l sound h)
 
-  pub run_blocks : (cs : List Call) (l : Ledger) → All Sound cs → All IsBlock l.rows → All IsBlock (ledger_run cs l).rows
+  pub run_blocks : (cs : List Call) (l : Ledger) → AllByRecursion Sound cs → AllByRecursion IsBlock l.rows → AllByRecursion IsBlock (ledger_run cs l).rows
   run_blocks [] l sound h = h
   run_blocks (c ∷ cs) l sound h = run_blocks cs (ledger_step c l) sound.1 (stepped c l sound.0 h).blocks
 
@@ -180,7 +180,7 @@ pub record KeptUp (piles : Piles) (cs : List Call) (s : State) (l : Ledger) : Ty
   pub answers : run_answers piles cs s ≡ ledger_answers piles cs l
   pub stands : StandsFor piles (run piles cs s) (ledger_run cs l)
 
-pub keeps_up : (piles : Piles) → BothLawful piles → (cs : List Call) → All Sound cs → (s : State) (l : Ledger) → StandsFor piles s l → KeptUp piles cs s l
+pub keeps_up : (piles : Piles) → BothLawful piles → (cs : List Call) → AllByRecursion Sound cs → (s : State) (l : Ledger) → StandsFor piles s l → KeptUp piles cs s l
 keeps_up piles ok cs sound s l h =
     let is = stands_is piles ok s l h in
     let ends = ap (run piles cs) is ∙ run_state piles ok cs l sound h.blocks in

@@ -1,7 +1,7 @@
 -- What holds of strips, for any two piles that keep the law of forkciphers.
 -- Assumes nothing.
 use Rattle.std.specs.Prelude.{◌≡◌, ℕ, ◌*◌, ◌<◌, List, [], length, get_or, take, drop, ◌≢◌, slice_index_or}
-use Rattle.std.specs.List.{AllByRecursion as All}
+use Rattle.std.specs.List.{AllByRecursion}
 use Rattle.interfaces.specs.Maps.{Lawful}
 use Rattle.strips.specs.declared.place.Pile.{Pile}
 use Rattle.strips.specs.declared.place.Station.{Station}
@@ -24,7 +24,7 @@ pub record StandsFor (piles : Piles) (s : State) (l : Ledger) : Type 0 where
   pub same_place : s.place ≡ l.place
   pub size : length s.bytes ≡ 16 * s.rows
   pub each : (k : ℕ) → k < s.rows → take 16 (drop (16 * k) s.bytes) ≡ stored piles s.place k (slice_index_or l.rows k [])
-  pub blocks : All IsBlock l.rows
+  pub blocks : AllByRecursion IsBlock l.rows
 
 -- the one ledger that a strip can stand for
 abbrev pub ledger_of : Piles → State → Ledger

@@ -1,7 +1,7 @@
 -- A strip with its bytes, and what the calls make of them: stored rows, where the ledger has plain ones.
 -- Assumes nothing. The laws over it are in Laws.
 use Rattle.std.specs.Prelude.{◌≡◌, ℕ, List, [], ◌∷◌, slice_index_or, slice_set}
-use Rattle.std.specs.List.{AllByRecursion as All}
+use Rattle.std.specs.List.{AllByRecursion}
 use Rattle.strips.specs.declared.place.Place.{Place}
 use Rattle.ledgers.specs.Rows.{Piles, IsBlock, stored, plain, each_row, flat, cells, opened}
 use Rattle.ledgers.specs.Stamps.{stamp}
@@ -98,4 +98,4 @@ pub record Made (piles : Piles) (c : Call) (before after : State) (answer : Answ
 pub record Ran (piles : Piles) (calls : List Call) (before after : State) (answers : List Answer) : Type 0 where
   pub end : after ≡ run piles calls before
   pub answered : answers ≡ run_answers piles calls before
-  pub sound : All Sound calls
+  pub sound : AllByRecursion Sound calls

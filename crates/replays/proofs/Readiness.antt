@@ -3,7 +3,7 @@
 use Rattle.std.proofs.Common.{◌≡◌, ℕ, suc, ◌+◌, ◌*◌, ◌<◌, ◌≤◌, Bool, true, false, cond, ◌||◌, eqb, leb, List, [], ◌∷◌, length, get_or, drop, Some, None, sym, refl, ap, ◌∙◌, ⊎_elim, add-one, arith}
 use Rattle.std.proofs.lemmas.List.{drop_more, drop_all}
 use Rattle.std.proofs.lemmas.Bool.{and_parts, eqb-true, leb-true, or_cases}
-use Rattle.std.specs.List.{AllByRecursion as All}
+use Rattle.std.specs.List.{AllByRecursion}
 use Rattle.strips.specs.declared.fault.StripFault.TheVariants.{WrongMemory}
 use Rattle.ledgers.specs.Ledgers.{fits, unless}
 use Rattle.ledgers.specs.declared.call.Call.{Call}
@@ -34,11 +34,11 @@ room_all n spare blank calls i h e = sym (e ∙ ap (no_room n spare blank i) (dr
 abbrev IsServed : (n spare blank : ℕ) → Call → Type 0
 IsServed n spare blank c = served n spare blank c ≡ true
 
-all_served : (n spare blank k : ℕ) (calls : List Call) → no_room n spare blank k calls ≡ None → All (IsServed n spare blank) calls
+all_served : (n spare blank k : ℕ) (calls : List Call) → no_room n spare blank k calls ≡ None → AllByRecursion (IsServed n spare blank) calls
 all_served n spare blank k [] e = tt
 all_served n spare blank k (c ∷ cs) e = go (served n spare blank c) refl (all_served n spare blank (suc k) cs)
   where
-    go : (b : Bool) → served n spare blank c ≡ b → (no_room n spare blank (suc k) cs ≡ None → All (IsServed n spare blank) cs) → All (IsServed n spare blank) (c ∷ cs)
+    go : (b : Bool) → served n spare blank c ≡ b → (no_room n spare blank (suc k) cs ≡ None → AllByRecursion (IsServed n spare blank) cs) → AllByRecursion (IsServed n spare blank) (c ∷ cs)
     go true is rest = (is, rest (sym (ap (λ b. cond b (no_room n spare blank (suc k) cs) (Some (NoRoom k))) is) ∙ e))
     go false is rest = absurd (some_none (NoRoom k) (sym (ap (λ b. cond b (no_room n spare blank (suc k) cs) (Some (NoRoom k))) is) ∙ e))
 
@@ -58,7 +58,7 @@ in_spare n spare blank c h ne =
 pub record Begun (n : ℕ) (h : Lengths) (calls : List Call) : Type 0 where
   pub fit : h.memory ≡ 16 * n
   pub each : h.answers ≡ length calls
-  pub room : All (IsServed n h.spare h.blank) calls
+  pub room : AllByRecursion (IsServed n h.spare h.blank) calls
 
 pub begun : (n : ℕ) (h : Lengths) (calls : List Call) → unready n h calls ≡ None → Begun n h calls
 begun n h calls e = go (fits n h.memory) refl
