@@ -1,4 +1,4 @@
--- KIASU-BC and ForkAES: either way undoes the other. The lemmas that end in `-made` are the contracts, from what the code computes.
+-- KIASU-BC and ForkAES: either way undoes the other. The lemmas that end in `_made` are the contracts, from what the code computes.
 -- Assumes nothing.
 use Rattle.std.specs.Prelude.{◌≡◌, ℕ, ◌+◌, List}
 use Rattle.std.proofs.Math.Path.{sym, ap}

@@ -4,7 +4,7 @@ ghost use Rattle.aes.specs.Block.{add_round_key, full_round, inv_sub_bytes, inv_
 ghost use Rattle.aes.specs.KeySets.{key_of};
 ghost use Rattle.aes.specs.Keys.{round_key};
 ghost use Rattle.aes.specs.Step.{Step};
-ghost use Rattle.ciphers.specs.Aes.{aes as aesOf, inv_aes};
+ghost use Rattle.ciphers.specs.Aes.{aes as aes_of, inv_aes};
 ghost use Rattle.ciphers.specs.Kiasu.{kiasu, inv_kiasu};
 ghost use Rattle.ciphers.specs.Tweaks.{zero_tweak};
 
@@ -38,7 +38,7 @@ fn inv_round(keys: &KeySet, i: usize, s: [u8; 16]) -> [u8; 16]
 
 // The whole cipher.
 fn cipher(keys: &KeySet, block: [u8; 16]) -> [u8; 16]
-    ensures made { Step (aesOf (key_of keys.now)) (inv_aes (key_of keys.now)) block result }
+    ensures made { Step (aes_of (key_of keys.now)) (inv_aes (key_of keys.now)) block result }
     ensures untweaked { result ≡ kiasu (key_of keys.now) zero_tweak block }
 {
     let mut s = add_round_key(block, round_key(keys, 0));
@@ -51,7 +51,7 @@ fn cipher(keys: &KeySet, block: [u8; 16]) -> [u8; 16]
 
 // The whole inverse.
 fn inv_cipher(keys: &KeySet, block: [u8; 16]) -> [u8; 16]
-    ensures made { Step (inv_aes (key_of keys.now)) (aesOf (key_of keys.now)) block result }
+    ensures made { Step (inv_aes (key_of keys.now)) (aes_of (key_of keys.now)) block result }
     ensures untweaked { result ≡ inv_kiasu (key_of keys.now) zero_tweak block }
 {
     let mut s = add_round_key(block, round_key(keys, 10));
@@ -73,7 +73,7 @@ impl Aes128 {
 
     // The block enciphered, which KIASU-BC does under the zero tweak too.
     pub fn encrypt(&self, block: [u8; 16]) -> [u8; 16]
-        ensures made { Step (aesOf (key_of self.now.keys)) (inv_aes (key_of self.now.keys)) block result }
+        ensures made { Step (aes_of (key_of self.now.keys)) (inv_aes (key_of self.now.keys)) block result }
         ensures untweaked { result ≡ kiasu (key_of self.now.keys) zero_tweak block }
     {
         cipher(&self.keys, block)
@@ -81,7 +81,7 @@ impl Aes128 {
 
     // The block whose encryption this is.
     pub fn decrypt(&self, block: [u8; 16]) -> [u8; 16]
-        ensures made { Step (inv_aes (key_of self.now.keys)) (aesOf (key_of self.now.keys)) block result }
+        ensures made { Step (inv_aes (key_of self.now.keys)) (aes_of (key_of self.now.keys)) block result }
         ensures untweaked { result ≡ inv_kiasu (key_of self.now.keys) zero_tweak block }
     {
         inv_cipher(&self.keys, block)

@@ -4,7 +4,7 @@ pub mod forkcipher;
 ghost use Rattle.std.specs.Prelude.{◌≡◌, ◌+◌, ◌≤◌};
 ghost use Rattle.aes.specs.KeySets.{key_of};
 ghost use Rattle.aes.specs.Step.{Step};
-ghost use Rattle.ciphers.specs.Forks.{start as start_of, branch as branchOf, inv_branch, fork_aes as forkAesOf, inv_fork_aes};
+ghost use Rattle.ciphers.specs.Forks.{start as start_of, branch as branch_of, inv_branch, fork_aes as fork_aes_of, inv_fork_aes};
 ghost use Rattle.ciphers.specs.Tweaks.{tweaked_key};
 ghost use Rattle.interfaces.specs.Sides.{other};
 ghost use Rattle.interfaces.specs.declared.sides.Side.TheVariants.{Left, Right};
@@ -31,7 +31,7 @@ fn start(side: Side) -> usize
 
 // A side's branch, from the stem's result.
 fn branch(keys: &KeySet, side: Side, tweak: [u8; 8], stem: [u8; 16]) -> [u8; 16]
-    ensures { result ≡ branchOf (tweaked_key (key_of keys.now) tweak) side stem }
+    ensures { result ≡ branch_of (tweaked_key (key_of keys.now) tweak) side stem }
 {
     let at = start(side);
     let s = rounds(keys, tweak, at, 5, stem);
@@ -49,8 +49,8 @@ fn inv_branch(keys: &KeySet, side: Side, tweak: [u8; 8], image: [u8; 16]) -> [u8
 
 // Both branches from one stem.
 fn images(keys: &KeySet, tweak: [u8; 8], block: [u8; 16]) -> ([u8; 16], [u8; 16])
-    ensures left { Step (forkAesOf (key_of keys.now) Left tweak) (inv_fork_aes (key_of keys.now) Left tweak) block result.0 }
-    ensures right { Step (forkAesOf (key_of keys.now) Right tweak) (inv_fork_aes (key_of keys.now) Right tweak) block result.1 }
+    ensures left { Step (fork_aes_of (key_of keys.now) Left tweak) (inv_fork_aes (key_of keys.now) Left tweak) block result.0 }
+    ensures right { Step (fork_aes_of (key_of keys.now) Right tweak) (inv_fork_aes (key_of keys.now) Right tweak) block result.1 }
 {
     let stem = rounds(keys, tweak, 0, 5, block);
     (
@@ -61,7 +61,7 @@ fn images(keys: &KeySet, tweak: [u8; 8], block: [u8; 16]) -> ([u8; 16], [u8; 16]
 
 // A side's branch and then the stem, undone.
 fn origin(keys: &KeySet, side: Side, tweak: [u8; 8], image: [u8; 16]) -> [u8; 16]
-    ensures { Step (inv_fork_aes (key_of keys.now) side tweak) (forkAesOf (key_of keys.now) side tweak) image result }
+    ensures { Step (inv_fork_aes (key_of keys.now) side tweak) (fork_aes_of (key_of keys.now) side tweak) image result }
 {
     let stem = inv_branch(keys, side, tweak, image);
     inv_rounds(keys, tweak, 0, 5, stem)
@@ -69,7 +69,7 @@ fn origin(keys: &KeySet, side: Side, tweak: [u8; 8], image: [u8; 16]) -> [u8; 16
 
 // From branch to branch, without the stem.
 fn crossed(keys: &KeySet, side: Side, tweak: [u8; 8], image: [u8; 16]) -> [u8; 16]
-    ensures { result ≡ forkAesOf (key_of keys.now) (other side) tweak (inv_fork_aes (key_of keys.now) side tweak image) }
+    ensures { result ≡ fork_aes_of (key_of keys.now) (other side) tweak (inv_fork_aes (key_of keys.now) side tweak image) }
 {
     let stem = inv_branch(keys, side, tweak, image);
     branch(keys, side.other(), tweak, stem)
@@ -86,22 +86,22 @@ impl ForkAes {
 
     // Both images of the block, left first.
     pub fn fork(&self, tweak: [u8; 8], block: [u8; 16]) -> ([u8; 16], [u8; 16])
-        ensures left { Step (forkAesOf (key_of self.now.keys) Left tweak) (inv_fork_aes (key_of self.now.keys) Left tweak) block result.0 }
-        ensures right { Step (forkAesOf (key_of self.now.keys) Right tweak) (inv_fork_aes (key_of self.now.keys) Right tweak) block result.1 }
+        ensures left { Step (fork_aes_of (key_of self.now.keys) Left tweak) (inv_fork_aes (key_of self.now.keys) Left tweak) block result.0 }
+        ensures right { Step (fork_aes_of (key_of self.now.keys) Right tweak) (inv_fork_aes (key_of self.now.keys) Right tweak) block result.1 }
     {
         images(&self.keys, tweak, block)
     }
 
     // The block whose image on that side this is.
     pub fn back(&self, side: Side, tweak: [u8; 8], image: [u8; 16]) -> [u8; 16]
-        ensures { Step (inv_fork_aes (key_of self.now.keys) side tweak) (forkAesOf (key_of self.now.keys) side tweak) image result }
+        ensures { Step (inv_fork_aes (key_of self.now.keys) side tweak) (fork_aes_of (key_of self.now.keys) side tweak) image result }
     {
         origin(&self.keys, side, tweak, image)
     }
 
     // The other side's image of that block.
     pub fn cross(&self, side: Side, tweak: [u8; 8], image: [u8; 16]) -> [u8; 16]
-        ensures { result ≡ forkAesOf (key_of self.now.keys) (other side) tweak (inv_fork_aes (key_of self.now.keys) side tweak image) }
+        ensures { result ≡ fork_aes_of (key_of self.now.keys) (other side) tweak (inv_fork_aes (key_of self.now.keys) side tweak image) }
     {
         crossed(&self.keys, side, tweak, image)
     }

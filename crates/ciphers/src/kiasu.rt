@@ -5,7 +5,7 @@ ghost use Rattle.std.specs.Prelude.{◌≡◌};
 ghost use Rattle.aes.specs.Block.{add_round_key, sub_bytes, inv_sub_bytes, shift_rows, inv_shift_rows};
 ghost use Rattle.aes.specs.KeySets.{key_of};
 ghost use Rattle.aes.specs.Step.{Step};
-ghost use Rattle.ciphers.specs.Kiasu.{kiasu as kiasuOf, inv_kiasu};
+ghost use Rattle.ciphers.specs.Kiasu.{kiasu as kiasu_of, inv_kiasu};
 ghost use Rattle.ciphers.specs.Tweaks.{tweaked_key};
 
 use crate::rounds::{inv_rounds, rounds, tweaked_key};
@@ -38,14 +38,14 @@ fn inv_last_round(keys: &KeySet, tweak: [u8; 8], s: [u8; 16]) -> [u8; 16]
 
 // The whole cipher: each tweaked key before its round.
 fn cipher(keys: &KeySet, tweak: [u8; 8], block: [u8; 16]) -> [u8; 16]
-    ensures { Step (kiasuOf (key_of keys.now) tweak) (inv_kiasu (key_of keys.now) tweak) block result }
+    ensures { Step (kiasu_of (key_of keys.now) tweak) (inv_kiasu (key_of keys.now) tweak) block result }
 {
     last_round(keys, tweak, rounds(keys, tweak, 0, 9, block))
 }
 
 // The whole inverse.
 fn inv_cipher(keys: &KeySet, tweak: [u8; 8], block: [u8; 16]) -> [u8; 16]
-    ensures { Step (inv_kiasu (key_of keys.now) tweak) (kiasuOf (key_of keys.now) tweak) block result }
+    ensures { Step (inv_kiasu (key_of keys.now) tweak) (kiasu_of (key_of keys.now) tweak) block result }
 {
     inv_rounds(keys, tweak, 0, 9, inv_last_round(keys, tweak, block))
 }
@@ -61,14 +61,14 @@ impl KiasuBc {
 
     // The image of the block under the tweak.
     pub fn encrypt(&self, tweak: [u8; 8], block: [u8; 16]) -> [u8; 16]
-        ensures { Step (kiasuOf (key_of self.now.keys) tweak) (inv_kiasu (key_of self.now.keys) tweak) block result }
+        ensures { Step (kiasu_of (key_of self.now.keys) tweak) (inv_kiasu (key_of self.now.keys) tweak) block result }
     {
         cipher(&self.keys, tweak, block)
     }
 
     // The block whose image under the tweak this is.
     pub fn decrypt(&self, tweak: [u8; 8], block: [u8; 16]) -> [u8; 16]
-        ensures { Step (inv_kiasu (key_of self.now.keys) tweak) (kiasuOf (key_of self.now.keys) tweak) block result }
+        ensures { Step (inv_kiasu (key_of self.now.keys) tweak) (kiasu_of (key_of self.now.keys) tweak) block result }
     {
         inv_cipher(&self.keys, tweak, block)
     }

@@ -3,7 +3,7 @@ ghost use Rattle.std.specs.Prelude.{◌≡◌, ◌+◌, ◌*◌, ◌^◌, ◌<�
 ghost use Rattle.files.specs.Faults.{answer, sound};
 ghost use Rattle.strips.specs.Rows.{most_rows};
 ghost use Rattle.files.specs.Checks.{Passed};
-ghost use Rattle.files.specs.Layout.{most_entries, trailer as trailer-of};
+ghost use Rattle.files.specs.Layout.{most_entries, trailer as file_trailer};
 ghost use Rattle.files.specs.Sound.{IsStripFile};
 ghost use Rattle.files.specs.Verdict.{verdict, trailer_verdict, fields_verdict, rest_verdict, end_verdict};
 
@@ -119,7 +119,7 @@ fn check_end(len: usize, trailer: &[u8], entries: usize, sum: usize) -> Result<(
 // What follows a sound trailer.
 fn check_rest(bytes: &[u8], trailer: &[u8]) -> Result<(), FileFault>
     requires long { (16 ≤ length bytes.now) × (length trailer.now ≡ 16) }
-    requires is { trailer.now ≡ trailer-of bytes.now }
+    requires is { trailer.now ≡ file_trailer bytes.now }
     requires accepted { trailer_verdict (length bytes.now) trailer.now ≡ sound }
     ensures { answer result ≡ rest_verdict bytes.now }
 {

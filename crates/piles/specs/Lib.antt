@@ -1,2 +1,2 @@
 pub mod Shifts
-pub mod ShiftedTweakableLemmas
+pub mod Laws

@@ -3,7 +3,7 @@ ghost use Rattle.std.specs.Prelude.{◌≡◌};
 ghost use Rattle.aes.specs.Block.{Bytes};
 ghost use Rattle.piles.specs.Shifts.{repeated, shifted_map};
 ghost use Rattle.interfaces.specs.Inverses.{after, xor_inverse};
-ghost use Rattle.piles.specs.ShiftedTweakableLemmas.{repeated_bytes, shift_inverse};
+ghost use Rattle.piles.specs.Laws.{repeated_bytes, shift_inverse};
 
 use aes::block::{inv_shift_rows, shift_rows};
 use interfaces::TweakableCipher;

@@ -1,4 +1,4 @@
--- The table's entry is invS of its place, by one test over the whole table.
+-- The table's entry is the byte that S takes to its place, by one test over the whole table.
 use Rattle.std.proofs.Common.{rules}
 use Rattle.aes.specs.Field.{doubled, partial, product, power, inverse, s_box, inv_s_box}
 use Rattle.aes.proofs.Bytes.{s_box-inv_s_box}

@@ -1,3 +1,5 @@
+-- That cipher takes back what it makes.
+-- Assumes nothing.
 use Rattle.std.specs.Prelude.{ℕ, ◌%◌, List}
 use Rattle.aes.specs.Block.{Bytes, at, shift_rows, inv_shift_rows}
 use Rattle.aes.proofs.Blocks.{shift_rows_bytes, inv_shift_rows_bytes, inv_shift_rows-shift_rows, shift_rows-inv_shift_rows}
