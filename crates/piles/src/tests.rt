@@ -5,7 +5,6 @@ use crate::vectors::{VECTORS, Vector};
 use ciphers::{ForkAes, KiasuBc};
 use interfaces::{Forkcipher, Joined, OneSide, Side, TweakableCipher};
 use layers::{Crossed, Owner, Pad};
-use std::process::Abort;
 
 // Pads, with no byte twice.
 const P: u128 = 0x00112233_44556677_8899aabb_ccddeeff;
@@ -19,25 +18,25 @@ const OWNER_1234: u64 = 0x02468000_00000000;
 
 const OWNER_8001: u64 = 0x10002000_00000000;
 
-// All three calls of any forkcipher, against a block and its images.
-fn forks<C: Forkcipher>(rt: &impl Abort, c: &C, tweak: u64, block: u128, left: u128, right: u128) {
+// Do all three calls of any forkcipher agree with a block and its images?
+fn forks<C: Forkcipher>(c: &C, tweak: u64, block: u128, left: u128, right: u128) -> bool {
     let t = tweak.to_be_bytes();
     let l = left.to_be_bytes();
     let r = right.to_be_bytes();
     let (first, second) = c.fork(t, block.to_be_bytes());
-    assert!(rt; u128::from_be_bytes(first) == left);
-    assert!(rt; u128::from_be_bytes(second) == right);
-    assert!(rt; u128::from_be_bytes(c.back(Side::Left, t, l)) == block);
-    assert!(rt; u128::from_be_bytes(c.back(Side::Right, t, r)) == block);
-    assert!(rt; u128::from_be_bytes(c.cross(Side::Left, t, l)) == right);
-    assert!(rt; u128::from_be_bytes(c.cross(Side::Right, t, r)) == left);
+    u128::from_be_bytes(first) == left
+        && u128::from_be_bytes(second) == right
+        && u128::from_be_bytes(c.back(Side::Left, t, l)) == block
+        && u128::from_be_bytes(c.back(Side::Right, t, r)) == block
+        && u128::from_be_bytes(c.cross(Side::Left, t, l)) == right
+        && u128::from_be_bytes(c.cross(Side::Right, t, r)) == left
 }
 
-// Both calls of any tweakable cipher, against a block and its image.
-fn encrypts<C: TweakableCipher>(rt: &impl Abort, c: &C, tweak: u64, block: u128, image: u128) {
+// Do both calls of any tweakable cipher agree with a block and its image?
+fn encrypts<C: TweakableCipher>(c: &C, tweak: u64, block: u128, image: u128) -> bool {
     let t = tweak.to_be_bytes();
-    assert!(rt; u128::from_be_bytes(c.encrypt(t, block.to_be_bytes())) == image);
-    assert!(rt; u128::from_be_bytes(c.decrypt(t, image.to_be_bytes())) == block);
+    u128::from_be_bytes(c.encrypt(t, block.to_be_bytes())) == image
+        && u128::from_be_bytes(c.decrypt(t, image.to_be_bytes())) == block
 }
 
 fn forkaes(v: &Vector) -> ForkAes {
@@ -80,10 +79,10 @@ fn three<C: Forkcipher>(lower: C) -> Pad<Owner<Crossed<C>>> {
 #[test]
 fn tweakable_ciphers(rt: HostRuntime) {
     for v in VECTORS.iter() {
-        encrypts(&rt, &kiasu(v), v.tweak, v.block, v.kiasu);
-        encrypts(&rt, &one_side(v, Side::Left), v.tweak, v.block, v.left);
-        encrypts(&rt, &one_side(v, Side::Right), v.tweak, v.block, v.right);
-        encrypts(&rt, &shifted(Q), v.tweak, v.start, v.block);
+        assert!(rt; encrypts(&kiasu(v), v.tweak, v.block, v.kiasu));
+        assert!(rt; encrypts(&one_side(v, Side::Left), v.tweak, v.block, v.left));
+        assert!(rt; encrypts(&one_side(v, Side::Right), v.tweak, v.block, v.right));
+        assert!(rt; encrypts(&shifted(Q), v.tweak, v.start, v.block));
     }
 }
 
@@ -91,17 +90,10 @@ fn tweakable_ciphers(rt: HostRuntime) {
 fn no_layer_and_one(rt: HostRuntime) {
     for v in VECTORS.iter() {
         let (t, b, l, r) = (v.tweak, v.block, v.left, v.right);
-        forks(&rt, &forkaes(v), t, b, l, r);
-        forks(&rt, &padded(forkaes(v), P, Q), t, b ^ P, l ^ Q, r ^ Q);
-        forks(
-            &rt,
-            &Owner::new(forkaes(v), 0x1234),
-            t ^ OWNER_1234,
-            b,
-            l,
-            r,
-        );
-        forks(&rt, &Crossed::new(forkaes(v)), t, b, r, l);
+        assert!(rt; forks(&forkaes(v), t, b, l, r));
+        assert!(rt; forks(&padded(forkaes(v), P, Q), t, b ^ P, l ^ Q, r ^ Q));
+        assert!(rt; forks(&Owner::new(forkaes(v), 0x1234), t ^ OWNER_1234, b, l, r));
+        assert!(rt; forks(&Crossed::new(forkaes(v)), t, b, r, l));
     }
 }
 
@@ -110,12 +102,12 @@ fn two_to_four_layers(rt: HostRuntime) {
     for v in VECTORS.iter() {
         let (t, b, l, r) = (v.tweak, v.block, v.left, v.right);
         let t3 = t ^ OWNER_1234;
-        forks(&rt, &Crossed::new(Crossed::new(forkaes(v))), t, b, l, r);
+        assert!(rt; forks(&Crossed::new(Crossed::new(forkaes(v))), t, b, l, r));
         let owners = Owner::new(Owner::new(forkaes(v), 0x8001), 0x1234);
-        forks(&rt, &owners, t3 ^ OWNER_8001, b, l, r);
-        forks(&rt, &three(forkaes(v)), t3, b ^ P, r ^ Q, l ^ Q);
+        assert!(rt; forks(&owners, t3 ^ OWNER_8001, b, l, r));
+        assert!(rt; forks(&three(forkaes(v)), t3, b ^ P, r ^ Q, l ^ Q));
         let four = padded(three(forkaes(v)), Q, FIVES);
-        forks(&rt, &four, t3, b ^ P ^ Q, r ^ Q ^ FIVES, l ^ Q ^ FIVES);
+        assert!(rt; forks(&four, t3, b ^ P ^ Q, r ^ Q ^ FIVES, l ^ Q ^ FIVES));
     }
 }
 
@@ -123,8 +115,8 @@ fn two_to_four_layers(rt: HostRuntime) {
 fn joined_ciphers(rt: HostRuntime) {
     for v in VECTORS.iter() {
         let (t, b, l, r) = (v.tweak, v.start, v.kiasu, v.left);
-        forks(&rt, &mixed(v), t, b, l, r);
-        forks(&rt, &three(mixed(v)), t ^ OWNER_1234, b ^ P, r ^ Q, l ^ Q);
+        assert!(rt; forks(&mixed(v), t, b, l, r));
+        assert!(rt; forks(&three(mixed(v)), t ^ OWNER_1234, b ^ P, r ^ Q, l ^ Q));
     }
 }
 
@@ -137,13 +129,14 @@ fn limbs_from_here(rt: HostRuntime) {
         left: shifted(P),
         right: shifted(Q),
     };
-    forks(
-        &rt,
-        &ends,
-        v.tweak,
-        v.block,
-        0xa3630af1_5eabf5ec_39ca9d6c_1a0077f0,
-        0x5393fa01_ae5b051c_c93a6d9c_eaf08700,
+    assert!(rt;
+        forks(
+            &ends,
+            v.tweak,
+            v.block,
+            0xa3630af1_5eabf5ec_39ca9d6c_1a0077f0,
+            0x5393fa01_ae5b051c_c93a6d9c_eaf08700
+        )
     );
 }
 
@@ -158,8 +151,8 @@ fn all_from_here(rt: HostRuntime) {
     };
     let left = 0x8776fc70_a873fc57_64c9d131_90ef82b9;
     let right = 0x77860c80_58830ca7_943921c1_601f7249;
-    forks(&rt, &all, v.tweak, v.block, left, right);
-    forks(&rt, &Crossed::new(all), v.tweak, v.block, right, left);
+    assert!(rt; forks(&all, v.tweak, v.block, left, right));
+    assert!(rt; forks(&Crossed::new(all), v.tweak, v.block, right, left));
 }
 
 // Three of KIASU-BC, where no vector is at hand: the calls agree with each other.
@@ -175,12 +168,13 @@ fn three_of_kiasu(rt: HostRuntime) {
     let b = v.block.to_be_bytes();
     assert!(rt; u128::from_be_bytes(there_and_back(&pile, Side::Left, t, b)) == v.block);
     let (left, right) = pile.fork(t, b);
-    forks(
-        &rt,
-        &pile,
-        v.tweak,
-        v.block,
-        u128::from_be_bytes(left),
-        u128::from_be_bytes(right),
+    assert!(rt;
+        forks(
+            &pile,
+            v.tweak,
+            v.block,
+            u128::from_be_bytes(left),
+            u128::from_be_bytes(right)
+        )
     );
 }
