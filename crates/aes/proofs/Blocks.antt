@@ -1,7 +1,7 @@
 -- Each step on a block keeps it a block, and is undone by its inverse.
 -- Assumes nothing.
 use Rattle.std.proofs.Common.{◌≡◌, ℕ, ◌+◌, ◌*◌, ◌/◌, ◌%◌, ◌<◌, List, ◌++◌, sym, ap, ◌∙◌, ap₂}
-use lib.Bits.{bit_xor, xor_lt}
+use Rattle.std.specs.Int.Bits.{bit_xor, xor_lt}
 use Rattle.aes.specs.Field.{s_box, inv_s_box}
 use Rattle.aes.specs.Block.{Bytes, at, listed, xored, sub_bytes, inv_sub_bytes, shift_rows, inv_shift_rows, column, quarter, columns, mix, inv_mix, full_round, inv_full_round}
 use Rattle.aes.proofs.Bytes.{s_box_byte, inv_s_box_byte, inv_s_box-s_box, s_box-inv_s_box}
@@ -21,9 +21,9 @@ xored_twice n a b ha =
     (λ j h. ap (λ x. bit_xor x (at b j)) (entry (λ j. bit_xor (at a j) (at b j)) n j 0 h) ∙ xor_twice (at a j) (at b j))
     ∙ sym (relisted n a ha)
 
-module _ (f : ℕ → ℕ) (f-byte : (b : ℕ) → b < 256 → f b < 256) where
+module _ (f : ℕ → ℕ) (f_byte : (b : ℕ) → b < 256 → f b < 256) where
   each_bytes : (s : List ℕ) → Bytes 16 s → Bytes 16 (listed 16 λ j. f (at s j))
-  each_bytes s b = listed_bytes 16 (λ j. f (at s j)) (λ j h. f-byte (at s j) (b.1 j))
+  each_bytes s b = listed_bytes 16 (λ j. f (at s j)) (λ j h. f_byte (at s j) (b.1 j))
 
   each_undone : (g : ℕ → ℕ) → ((b : ℕ) → b < 256 → g (f b) ≡ b) → (s : List ℕ) → Bytes 16 s → (listed 16 λ j. g (at (listed 16 λ i. f (at s i)) j)) ≡ s
   each_undone g e s b =

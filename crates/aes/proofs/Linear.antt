@@ -3,7 +3,7 @@
 -- Assumes nothing.
 use Rattle.std.proofs.Common.{◌≡◌, ℕ, zero, suc, ◌+◌, ◌-◌, ◌*◌, ◌/◌, ◌%◌, ◌^◌, ◌<◌, ◌≤◌, sym, refl, ap, ◌∙◌, ap₂, ⊎_elim, one-mul, pow-suc, zero-mul, arith}
 use native.Mathlib.Nat.{pow-zero}
-use lib.Bits.{bit_xor, xor_comm, xor_assoc, xor_self, xor_zero_r, xor_mod, xor_shr, xor_block, xor_shifted, xor_lt}
+use Rattle.std.specs.Int.Bits.{bit_xor, xor_comm, xor_assoc, xor_self, xor_zero_r, xor_mod, xor_shr, xor_block, xor_shifted, xor_lt}
 use Rattle.std.proofs.lemmas.Bool.{cases_lt}
 use Rattle.aes.specs.Field.{doubled, partial, product}
 

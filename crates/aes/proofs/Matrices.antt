@@ -1,7 +1,7 @@
 -- The two matrices undo each other on every column.
 -- Assumes nothing.
 use Rattle.std.proofs.Common.{◌≡◌, ℕ, zero, suc, ◌^◌, ◌<◌, Bool, true, false, cond, eqb, List, map, sym, refl, ap, ◌∙◌, ap₂, arith, lit<}
-use lib.Bits.{bit_xor, xor_zero_r, xor_lt}
+use Rattle.std.specs.Int.Bits.{bit_xor, xor_zero_r, xor_lt}
 use Rattle.std.specs.List.{range_with_len}
 use Rattle.aes.specs.Field.{doubled, partial, product}
 use Rattle.aes.specs.Block.{Bytes, listed, at, coefficient, sum4, column, mix, inv_mix}

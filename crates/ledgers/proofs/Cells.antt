@@ -38,20 +38,20 @@ get_or-cells (suc n) bytes (suc k) h =
     more j = omega arith
 
 module _ (f : ℕ → List ℕ → List ℕ) where
-  pub length_each_row : (k : ℕ) (bs : List (List ℕ)) → length (each_row f k bs) ≡ length bs
-  length_each_row k [] = refl
-  length_each_row k (b ∷ bs) = ap suc (length_each_row (suc k) bs)
+  pub length-each_row : (k : ℕ) (bs : List (List ℕ)) → length (each_row f k bs) ≡ length bs
+  length-each_row k [] = refl
+  length-each_row k (b ∷ bs) = ap suc (length-each_row (suc k) bs)
 
   pub get_or-each_row : (k : ℕ) (bs : List (List ℕ)) (i : ℕ) (d : List ℕ) → i < length bs → get_or (each_row f k bs) i d ≡ f (k + i) (get_or bs i d)
   get_or-each_row k [] i d h = absurd (not-suc-le-zero h)
   get_or-each_row k (b ∷ bs) zero d h = ap (λ j. f j b) (sym (add-zero k))
   get_or-each_row k (b ∷ bs) (suc i) d h = get_or-each_row (suc k) bs i d (le_of_suc-le-suc h) ∙ ap (λ j. f j (get_or bs i d)) (suc-add k i ∙ sym (add-suc k i))
 
-  pub set_each_row : (k : ℕ) (bs : List (List ℕ)) (i : ℕ) (b : List ℕ) → set (each_row f k bs) i (f (k + i) b) ≡ each_row f k (set bs i b)
-  set_each_row k [] i b = refl
-  set_each_row k (a ∷ bs) zero b = ap (λ j. f j b ∷ each_row f (suc k) bs) (add-zero k)
-  set_each_row k (a ∷ bs) (suc i) b =
-      ap (λ j. f k a ∷ set (each_row f (suc k) bs) i (f j b)) (add-suc k i ∙ sym (suc-add k i)) ∙ ap (λ cs. f k a ∷ cs) (set_each_row (suc k) bs i b)
+  pub set-each_row : (k : ℕ) (bs : List (List ℕ)) (i : ℕ) (b : List ℕ) → set (each_row f k bs) i (f (k + i) b) ≡ each_row f k (set bs i b)
+  set-each_row k [] i b = refl
+  set-each_row k (a ∷ bs) zero b = ap (λ j. f j b ∷ each_row f (suc k) bs) (add-zero k)
+  set-each_row k (a ∷ bs) (suc i) b =
+      ap (λ j. f k a ∷ set (each_row f (suc k) bs) i (f j b)) (add-suc k i ∙ sym (suc-add k i)) ∙ ap (λ cs. f k a ∷ cs) (set-each_row (suc k) bs i b)
 
   pub all_each_row : (P Q : List ℕ → Type 0) → ((k : ℕ) (b : List ℕ) → P b → Q (f k b)) → (k : ℕ) (bs : List (List ℕ)) → AllByRecursion P bs → AllByRecursion Q (each_row f k bs)
   all_each_row P Q g k [] h = tt
@@ -88,7 +88,7 @@ put_flat (suc n) bytes (suc k) b e lt =
     let front : take (16 * suc k) bytes ≡ take 16 bytes ++ take (16 * k) (drop 16 bytes)
     = ap (λ j. take j bytes) (more k) ∙ take-add 16 (16 * k) bytes in
     let back : drop (16 * suc k + 16) bytes ≡ drop (16 * k + 16) (drop 16 bytes)
-    = ap (λ j. drop j bytes) (more-on k) ∙ sym (drop-drop (16 * k + 16) 16 bytes) in
+    = ap (λ j. drop j bytes) (more_on k) ∙ sym (drop-drop (16 * k + 16) 16 bytes) in
     ap₂ (λ x y. x ++ (b ++ y)) front back
     ∙ append_assoc (take 16 bytes) (take (16 * k) (drop 16 bytes)) (b ++ drop (16 * k + 16) (drop 16 bytes))
     ∙ ap (λ rest. take 16 bytes ++ rest) (put_flat n (drop 16 bytes) k b (omega (arith, length-drop 16 bytes)) (le_of_suc-le-suc lt))
@@ -96,8 +96,8 @@ put_flat (suc n) bytes (suc k) b e lt =
     more : (j : ℕ) → 16 * suc j ≡ 16 + 16 * j
     more j = omega arith
 
-    more-on : (j : ℕ) → 16 * suc j + 16 ≡ 16 + (16 * j + 16)
-    more-on j = omega arith
+    more_on : (j : ℕ) → 16 * suc j + 16 ≡ 16 + (16 * j + 16)
+    more_on j = omega arith
 
 pub put_cells : (n : ℕ) (bytes : List ℕ) (k : ℕ) (b : List ℕ) → length bytes ≡ 16 * n → k < n → Sized b → cells n (put bytes k b) ≡ set (cells n bytes) k b
 put_cells n bytes k b e lt hb =
@@ -146,7 +146,7 @@ module _ (F : ℕ → List ℕ → List ℕ) (n : ℕ) (before : List ℕ) where
   pub swept_all : (now : List ℕ) → Swept F n before now n → now ≡ flat (each_row F 0 (cells n before))
   swept_all now s =
       sym (flat-cells n now s.size)
-      ∙ ap flat (ext_get_or [] (cells n now) (each_row F 0 (cells n before)) (length-cells n now ∙ sym (length_each_row F 0 (cells n before) ∙ length-cells n before))
+      ∙ ap flat (ext_get_or [] (cells n now) (each_row F 0 (cells n before)) (length-cells n now ∙ sym (length-each_row F 0 (cells n before) ∙ length-cells n before))
       (λ k h.
       let lt : k < n = subst (λ j. k < j) (length-cells n now) h in
       s.done k lt

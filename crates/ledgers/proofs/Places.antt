@@ -17,7 +17,7 @@ use Rattle.ledgers.specs.Ledgers.{Ledger}
 use Rattle.ledgers.specs.Machine.{State, plain_row, restored, moved}
 use Rattle.ledgers.specs.Laws.{BothLawful, StandsFor, ledger_of}
 use Rattle.interfaces.proofs.Numbers.{big_endian_bytes}
-use Rattle.ledgers.proofs.Cells.{Sized, length-flat, cells-flat, length-cells, flat-cells, get_or-cells, length_each_row, get_or-each_row, all_each_row, each_row_twice, each_row_same}
+use Rattle.ledgers.proofs.Cells.{Sized, length-flat, cells-flat, length-cells, flat-cells, get_or-cells, length-each_row, get_or-each_row, all_each_row, each_row_twice, each_row_same}
 
 pub both_lawful : {h a : Maps} → Lawful h → Lawful a → BothLawful (both h a)
 both_lawful h a Home = h
@@ -29,7 +29,7 @@ tweak_bytes u n r = big_endian_bytes 8 (u * 2 ^ 61 + n * 2 ^ 29 + r)
 -- ---- the rows that stand in bytes
 module _ (piles : Piles) (p : Place) (n : ℕ) (bytes : List ℕ) where
   pub length-opened : length (opened piles p n bytes) ≡ n
-  length-opened = length_each_row (plain piles p) 0 (cells n bytes) ∙ length-cells n bytes
+  length-opened = length-each_row (plain piles p) 0 (cells n bytes) ∙ length-cells n bytes
 
   pub get_or-opened : (i : ℕ) → i < n → plain_row piles p (cells n bytes) i ≡ get_or (opened piles p n bytes) i []
   get_or-opened i lt =
@@ -99,7 +99,7 @@ module _ (piles : Piles) (ok : BothLawful piles) where
 
   pub cells-sealed : (p : Place) (rows : List (List ℕ)) → AllByRecursion IsBlock rows → cells (length rows) (sealed piles p rows) ≡ each_row (stored piles p) 0 rows
   cells-sealed p rows h =
-      ap (λ n. cells n (sealed piles p rows)) (sym (length_each_row (stored piles p) 0 rows)) ∙ cells-flat _ (stored_sized p rows h)
+      ap (λ n. cells n (sealed piles p rows)) (sym (length-each_row (stored piles p) 0 rows)) ∙ cells-flat _ (stored_sized p rows h)
 
   -- the rows come out again
   pub rows_back : (p : Place) (rows : List (List ℕ)) → AllByRecursion IsBlock rows → each_row (plain piles p) 0 (each_row (stored piles p) 0 rows) ≡ rows
@@ -113,7 +113,7 @@ module _ (piles : Piles) (ok : BothLawful piles) where
       let f = stored piles s.place in
       sym (flat-cells s.rows s.bytes h.size)
       ∙ ap flat (ext_get_or [] (cells s.rows s.bytes) (each_row f 0 l.rows)
-      (length-cells s.rows s.bytes ∙ h.count ∙ sym (length_each_row f 0 l.rows))
+      (length-cells s.rows s.bytes ∙ h.count ∙ sym (length-each_row f 0 l.rows))
       (λ k lt.
       let inside : k < s.rows = subst (λ m. k < m) (length-cells s.rows s.bytes) lt in
       let below : k < length l.rows = subst (λ m. k < m) h.count inside in
@@ -127,7 +127,7 @@ module _ (piles : Piles) (ok : BothLawful piles) where
       record {
         count = refl;
         same_place = refl;
-        size = length-flat _ (stored_sized l.place rows h) ∙ ap (λ n. 16 * n) (length_each_row f 0 rows);
+        size = length-flat _ (stored_sized l.place rows h) ∙ ap (λ n. 16 * n) (length-each_row f 0 rows);
         each = λ k lt.
             sym (get_or-cells (length rows) (sealed piles l.place rows) k lt)
             ∙ ap (λ cs. get_or cs k []) (cells-sealed l.place rows h)
@@ -157,7 +157,7 @@ module _ (piles : Piles) (ok : BothLawful piles) where
       let cs = cells s.rows s.bytes in
       let blocks = cell_blocks s.rows s.bytes e h in
       record {
-        count = sym (length_each_row (plain piles p) 0 cs ∙ length-cells s.rows s.bytes);
+        count = sym (length-each_row (plain piles p) 0 cs ∙ length-cells s.rows s.bytes);
         same_place = refl;
         size = e;
         each = λ k lt.

@@ -1,7 +1,7 @@
 -- Stamps: a row that differs shows in the sum, and the loop that adds up the rows.
 -- Assumes nothing.
 use Rattle.std.proofs.Common.{◌≡◌, ℕ, zero, suc, ◌+◌, ◌<◌, ◌≤◌, List, [], ◌∷◌, length, get_or, drop, set, sym, refl, ap, ◌∙◌, subst, ap₂, le_of_suc-le-suc, not-suc-le-zero, add-zero, add-suc, suc-add, add-one}
-use lib.Bits.{bit_xor, xor_comm}
+use Rattle.std.specs.Int.Bits.{bit_xor, xor_comm}
 use Rattle.std.proofs.lemmas.List.{drop_all, drop_more, length-set}
 use Rattle.std.proofs.ByRecursion.{All-get_or}
 use Rattle.std.specs.List.{AllByRecursion}

@@ -16,7 +16,7 @@ use Rattle.ledgers.specs.Stamps.{stamp}
 use Rattle.ledgers.specs.Ledgers.{Ledger, unless, first, no_row, wrong_memory, act_refusal, fits, refusal, changed, accepted, answer_of, kept_or, refused_or, ledger_step, ledger_answer, ledger_run, ledger_answers}
 use Rattle.ledgers.specs.Machine.{State, SoundAct, Sound, plain_row, place_after, cells_after, carried, reply, step, step_answer, run, run_answers}
 use Rattle.ledgers.specs.Laws.{BothLawful, StandsFor}
-use Rattle.ledgers.proofs.Cells.{get_or-each_row, set_each_row, each_row_twice}
+use Rattle.ledgers.proofs.Cells.{get_or-each_row, set-each_row, each_row_twice}
 use Rattle.ledgers.proofs.Places.{stored_back, cells-sealed, opened-sealed, stands_sealed, sealed_stands}
 
 -- ---- what an accepted call tells
@@ -58,7 +58,7 @@ module _ (piles : Piles) (ok : BothLawful piles) where
       ∙ stored_back piles ok p i (get_or rows i []) (All-get_or IsBlock rows i [] lt h)
 
   put_row : (p : Place) (rows : List (List ℕ)) (i : ℕ) (b : List ℕ) → set (each_row (stored piles p) 0 rows) i (stored piles p i b) ≡ each_row (stored piles p) 0 (set rows i b)
-  put_row p rows i b = ap (λ j. set (each_row (stored piles p) 0 rows) i (stored piles p j b)) (sym (zero-add i)) ∙ set_each_row (stored piles p) 0 rows i b
+  put_row p rows i b = ap (λ j. set (each_row (stored piles p) 0 rows) i (stored piles p j b)) (sym (zero-add i)) ∙ set-each_row (stored piles p) 0 rows i b
 
   -- an accepted call does to the stored rows what the ledger does to the rows
   cells_follow : (a : Act) (l : Ledger) → AllByRecursion IsBlock l.rows → act_refusal (length l.rows) a ≡ None
@@ -68,9 +68,9 @@ module _ (piles : Piles) (ok : BothLawful piles) where
       let p = l.place in
       let rows = l.rows in
       let n = length rows in
-      let i-in : i < n = row_inside n i (first_left (no_row n i) (no_row n j) e) in
-      let j-in : j < n = row_inside n j (first_right (no_row n i) (no_row n j) e) in
-      ap₂ (λ x y. set (set (each_row (stored piles p) 0 rows) i (stored piles p i x)) j (stored piles p j y)) (row_plain p rows j h j-in) (row_plain p rows i h i-in)
+      let i_in : i < n = row_inside n i (first_left (no_row n i) (no_row n j) e) in
+      let j_in : j < n = row_inside n j (first_right (no_row n i) (no_row n j) e) in
+      ap₂ (λ x y. set (set (each_row (stored piles p) 0 rows) i (stored piles p i x)) j (stored piles p j y)) (row_plain p rows j h j_in) (row_plain p rows i h i_in)
       ∙ ap (λ cs. set cs j (stored piles p j (get_or rows i []))) (put_row p rows i (get_or rows j []))
       ∙ put_row p (set rows i (get_or rows j [])) j (get_or rows i [])
   cells_follow (Convert d) l h e =
@@ -110,9 +110,9 @@ module _ (piles : Piles) (ok : BothLawful piles) where
   accepted_blocks (Exchange i j) l sound h e =
       let rows = l.rows in
       let n = length rows in
-      let i-in : i < n = row_inside n i (first_left (no_row n i) (no_row n j) e) in
-      let j-in : j < n = row_inside n j (first_right (no_row n i) (no_row n j) e) in
-      All-set IsBlock (set rows i (get_or rows j [])) j (get_or rows i []) (All-get_or IsBlock rows i [] i-in h) (All-set IsBlock rows i (get_or rows j []) (All-get_or IsBlock rows j [] j-in h) h)
+      let i_in : i < n = row_inside n i (first_left (no_row n i) (no_row n j) e) in
+      let j_in : j < n = row_inside n j (first_right (no_row n i) (no_row n j) e) in
+      All-set IsBlock (set rows i (get_or rows j [])) j (get_or rows i []) (All-get_or IsBlock rows i [] i_in h) (All-set IsBlock rows i (get_or rows j []) (All-get_or IsBlock rows j [] j_in h) h)
   accepted_blocks (Convert d) l sound h e = h
   accepted_blocks (Read i m) l sound h e = h
   accepted_blocks (Stamp m) l sound h e = h
@@ -132,11 +132,11 @@ module _ (piles : Piles) (ok : BothLawful piles) where
     pub blocks : AllByRecursion IsBlock (ledger_step c l).rows
 
   pub stepped : (c : Call) (l : Ledger) → Sound c → AllByRecursion IsBlock l.rows → Stepped c l
-  stepped c l sound h = record { state = state-at _ refl; answer = answer_at _ refl; blocks = blocks_at _ refl }
+  stepped c l sound h = record { state = state_at _ refl; answer = answer_at _ refl; blocks = blocks_at _ refl }
     where
-      state-at : (r : Option StripFault) → refusal (length l.rows) c ≡ r → kept_or r (state_of piles l) (carried piles c.act (state_of piles l)) ≡ state_of piles (kept_or r l (accepted c.act l))
-      state-at (Some f) e = refl
-      state-at None e = act_follows c.act l h (act_passed (length l.rows) c e)
+      state_at : (r : Option StripFault) → refusal (length l.rows) c ≡ r → kept_or r (state_of piles l) (carried piles c.act (state_of piles l)) ≡ state_of piles (kept_or r l (accepted c.act l))
+      state_at (Some f) e = refl
+      state_at None e = act_follows c.act l h (act_passed (length l.rows) c e)
 
       answer_at : (r : Option StripFault) → refusal (length l.rows) c ≡ r
           → refused_or r (reply piles c.act (state_of piles l)) ≡ refused_or r (answer_of piles c.act l)

@@ -75,11 +75,11 @@ module _ (piles : Piles) (ok : BothLawful piles) where
       let number = l.place.number in
       let i = o.at in
       let c = get_or m.rows i [] in
-      let c-block : IsBlock c = All-get_or IsBlock m.rows i [] (subst (λ n. i < n) o.long o.inside) hm in
+      let c_block : IsBlock c = All-get_or IsBlock m.rows i [] (subst (λ n. i < n) o.long o.inside) hm in
       let same : stamp_by (piles q) (ok q) number l.rows ≡ stamp_by (piles q) (ok q) number (set l.rows i c)
       = e ∙ ap₂ (λ z k. mixed (right_of (piles z) k) (head_of (piles z) k (length m.rows)) 0 m.rows) (sym ep) (sym en)
       ∙ ap (λ rows. mixed (right_of (piles q) number) (head_of (piles q) number (length rows)) 0 rows) (one_put l.rows m.rows o) in
-      o.apart (stamp_one (piles q) (ok q) number l.rows i c hl c-block o.inside same)
+      o.apart (stamp_one (piles q) (ok q) number l.rows i c hl c_block o.inside same)
 
   pub stamp_tells_row : (s : State) → StampTellsRow piles s
   stamp_tells_row s t l m hs ht en ep o e =

@@ -1,6 +1,6 @@
 -- What holds of strips, for any two piles that keep the law of forkciphers.
 -- Assumes nothing.
-use Rattle.std.specs.Prelude.{◌≡◌, ℕ, ◌*◌, ◌<◌, List, [], length, get_or, take, drop, ◌≢◌, slice_index_or}
+use Rattle.std.specs.Prelude.{◌≡◌, ℕ, ◌*◌, ◌<◌, List, [], length, take, drop, ◌≢◌, slice_index_or}
 use Rattle.std.specs.List.{AllByRecursion}
 use Rattle.interfaces.specs.Maps.{Lawful}
 use Rattle.strips.specs.declared.place.Pile.{Pile}
@@ -57,7 +57,7 @@ pub record OneApart (xs ys : List (List ℕ)) : Type 0 where
   pub at : ℕ
   pub inside : at < length xs
   pub long : length xs ≡ length ys
-  pub apart : get_or xs at [] ≡ slice_index_or ys at [] → ⊥
+  pub apart : slice_index_or xs at [] ≢ slice_index_or ys at []
   pub alike : (k : ℕ) → (k ≢ at) → slice_index_or xs k [] ≡ slice_index_or ys k []
 
 -- under one number and pile, and whatever their stations, strips whose ledgers are one row apart have different stamps

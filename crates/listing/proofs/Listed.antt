@@ -53,8 +53,8 @@ total_short n s few small =
     omega (arith, length-total_line n s, length-decimal-le 3 n (omega arith) (omega arith) (omega arith), length-decimal-le 7 s (omega arith) (omega arith) (omega arith))
 
 pub fault_short : (words : List ℕ) (n e b : ℕ) → n < 2 ^ 64 → e < 2 ^ 64 → b < 2 ^ 64 → length (fault_line words n e b) ≤ length words + longest_fault
-fault_short words n e b small_n small-e small_b =
-    omega (arith, length-fault_line words n e b, length-decimal-le 20 n (omega arith) (omega arith) small_n, length-decimal-le 20 e (omega arith) (omega arith) small-e, length-decimal-le 20 b (omega arith) (omega arith) small_b)
+fault_short words n e b small_n small_e small_b =
+    omega (arith, length-fault_line words n e b, length-decimal-le 20 n (omega arith) (omega arith) small_n, length-decimal-le 20 e (omega arith) (omega arith) small_e, length-decimal-le 20 b (omega arith) (omega arith) small_b)
 
 -- one record more
 module _ (bs : List ℕ) (i : ℕ) where
@@ -80,10 +80,10 @@ file_totals bs f = record {
 
 pub lines_done : (bs : List ℕ) (n i s : ℕ) → n ≡ entries bs → i ≡ n → s ≡ row_sum (first_records bs i) → flat_map record_line (first_records bs i) ++ total_line n s ≡ records_listing (records bs)
 unfolding records_listing first_records
-lines_done bs n i s is-n is-i is-s =
-    let all : i ≡ entries bs = is-i ∙ is-n in
-    let long : n ≡ length (records bs) = is-n ∙ sym (length-map-range_with_len (λ j. record_of (entry bs j)) 0 (entries bs)) in
-    (λ j. flat_map record_line (first_records bs (all j)) ++ total_line (long j) ((is-s ∙ ap (λ k. row_sum (first_records bs k)) all) j))
+lines_done bs n i s is_n is_i is_s =
+    let all : i ≡ entries bs = is_i ∙ is_n in
+    let long : n ≡ length (records bs) = is_n ∙ sym (length-map-range_with_len (λ j. record_of (entry bs j)) 0 (entries bs)) in
+    (λ j. flat_map record_line (first_records bs (all j)) ++ total_line (long j) ((is_s ∙ ap (λ k. row_sum (first_records bs k)) all) j))
 
 -- which lines are listed
 pub listing_long : (bs : List ℕ) → most_input < length bs → too_long_line ≡ listing bs

@@ -91,8 +91,8 @@ module _ (piles : Piles) (s s' : Strip) (m spare part' : List ℕ) (c : Call) (x
   stay : state s' part' ≡ state s front
   stay = made.end ∙ step_misfit piles (call c.act front) (state s front) unfit
 
-  pub other-spare : part' ++ drop (c.memory - 0) spare ≡ spare
-  other-spare = ap (λ t. t.bytes ++ drop (c.memory - 0) spare) stay ∙ take-append-drop (c.memory - 0) spare
+  pub other_spare : part' ++ drop (c.memory - 0) spare ≡ spare
+  other_spare = ap (λ t. t.bytes ++ drop (c.memory - 0) spare) stay ∙ take-append-drop (c.memory - 0) spare
 
   pub other_made : Made piles c (state s m) (state s' m) x
   other_made = record {

@@ -26,19 +26,19 @@ fn is_sound(act: Act)
     }
 }
 
-fn tell(res: Result<(), StripFault>) -> Answer
-    ensures { result ≡ told res }
+fn tell(outcome: Result<(), StripFault>) -> Answer
+    ensures { result ≡ told outcome }
 {
-    match res {
+    match outcome {
         Ok(()) => Answer::Done,
         Err(fault) => Answer::Refused(fault),
     }
 }
 
-fn show(res: Result<(), StripFault>, block: [u8; 16]) -> Answer
-    ensures { result ≡ shown res block }
+fn show(outcome: Result<(), StripFault>, block: [u8; 16]) -> Answer
+    ensures { result ≡ shown outcome block }
 {
-    match res {
+    match outcome {
         Ok(()) => Answer::Shown(block),
         Err(fault) => Answer::Refused(fault),
     }
@@ -144,7 +144,7 @@ pub(crate) fn hand<H: Forkcipher, A: Forkcipher>(
     blank: &mut [u8],
     call: Call,
 ) -> Answer
-    requires memory_len { length memory.old ≡ 16 * strip.old.rows.count }
+    requires memory_fits { length memory.old ≡ 16 * strip.old.rows.count }
     requires call_served { served strip.old.rows.count (length spare.old) (length blank.old) call ≡ true }
     ensures made { Made
         (both (H.Forkcipher.maps home.now) (A.Forkcipher.maps away.now))

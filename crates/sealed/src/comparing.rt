@@ -19,10 +19,10 @@ impl Strip {
         others: &[u8],
         row: usize,
     ) -> bool
-        requires memory_len { length memory.now ≡ 16 * self.now.rows.count }
-        requires others_len { length others.now ≡ 16 * other.now.rows.count }
-        requires row_lt_count { row < self.now.rows.count }
-        requires row_lt_others_count { row < other.now.rows.count }
+        requires memory_fits { length memory.now ≡ 16 * self.now.rows.count }
+        requires others_fit { length others.now ≡ 16 * other.now.rows.count }
+        requires row_within { row < self.now.rows.count }
+        requires row_within_other { row < other.now.rows.count }
         ensures { Decides result (
             row_of (both (H.Forkcipher.maps home.now) (A.Forkcipher.maps away.now)) self.now memory.now row
             ≡ row_of (both (H.Forkcipher.maps home.now) (A.Forkcipher.maps away.now)) other.now others.now row) }
@@ -39,8 +39,8 @@ impl Strip {
         other: &Strip,
         others: &[u8],
     ) -> bool
-        requires memory_len { length memory.now ≡ 16 * self.now.rows.count }
-        requires others_len { length others.now ≡ 16 * other.now.rows.count }
+        requires memory_fits { length memory.now ≡ 16 * self.now.rows.count }
+        requires others_fit { length others.now ≡ 16 * other.now.rows.count }
         requires same_count { self.now.rows.count ≡ other.now.rows.count }
         ensures { Decides result (
             (ledger_of (both (H.Forkcipher.maps home.now) (A.Forkcipher.maps away.now)) (state self.now memory.now)).rows
@@ -63,8 +63,8 @@ impl Strip {
         other: &Strip,
         others: &[u8],
     ) -> bool
-        requires memory_len { length memory.now ≡ 16 * self.now.rows.count }
-        requires others_len { length others.now ≡ 16 * other.now.rows.count }
+        requires memory_fits { length memory.now ≡ 16 * self.now.rows.count }
+        requires others_fit { length others.now ≡ 16 * other.now.rows.count }
         ensures { SameRows
             (both (H.Forkcipher.maps home.now) (A.Forkcipher.maps away.now))
             (state self.now memory.now) (state other.now others.now) result }

@@ -20,9 +20,9 @@ impl Strip {
         from: usize,
         to: usize,
     ) -> [u8; 16]
-        requires memory_len { length memory.now ≡ 16 * self.now.rows.count }
-        requires from_lt_count { from < self.now.rows.count }
-        requires to_lt_count { to < self.now.rows.count }
+        requires memory_fits { length memory.now ≡ 16 * self.now.rows.count }
+        requires from_within { from < self.now.rows.count }
+        requires to_within { to < self.now.rows.count }
         ensures { result ≡ copied_row
             (both (H.Forkcipher.maps home.now) (A.Forkcipher.maps away.now))
             self.now memory.now from to }
@@ -40,9 +40,9 @@ impl Strip {
         first: usize,
         second: usize,
     )
-        requires memory_len { length memory.old ≡ 16 * self.now.rows.count }
-        requires first_lt_count { first < self.now.rows.count }
-        requires second_lt_count { second < self.now.rows.count }
+        requires memory_fits { length memory.old ≡ 16 * self.now.rows.count }
+        requires first_within { first < self.now.rows.count }
+        requires second_within { second < self.now.rows.count }
         ensures { memory.new ≡ traded
             (both (H.Forkcipher.maps home.now) (A.Forkcipher.maps away.now))
             self.now memory.old first second }

@@ -17,8 +17,8 @@ impl Strip {
         way: Way,
         row: usize,
     )
-        requires memory_len { length memory.old ≡ 16 * self.now.rows.count }
-        requires row_lt_count { row < self.now.rows.count }
+        requires memory_fits { length memory.old ≡ 16 * self.now.rows.count }
+        requires row_within { row < self.now.rows.count }
         requires starts { Starts way self.now.place.station }
         ensures { memory.new ≡ row_moved
             (both (H.Forkcipher.maps home.now) (A.Forkcipher.maps away.now))
@@ -36,7 +36,7 @@ impl Strip {
         memory: &mut [u8],
         way: Way,
     )
-        requires memory_len { length memory.old ≡ 16 * self.now.rows.count }
+        requires memory_fits { length memory.old ≡ 16 * self.now.rows.count }
         requires starts { Starts way self.now.place.station }
         ensures { memory.new ≡ all_moved
             (both (H.Forkcipher.maps home.now) (A.Forkcipher.maps away.now))

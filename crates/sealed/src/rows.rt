@@ -10,8 +10,8 @@ use interfaces::Forkcipher;
 impl Strip {
     // A row as it is stored.
     pub(crate) fn row(&self, memory: &[u8], row: usize) -> [u8; 16]
-        requires memory_len { length memory.now ≡ 16 * self.now.rows.count }
-        requires row_lt_count { row < self.now.rows.count }
+        requires memory_fits { length memory.now ≡ 16 * self.now.rows.count }
+        requires row_within { row < self.now.rows.count }
         ensures { result ≡ slice_index_or (cells self.now.rows.count memory.now) row [] }
     {
         let mut block = [0; 16];
@@ -27,8 +27,8 @@ impl Strip {
         memory: &[u8],
         row: usize,
     ) -> [u8; 16]
-        requires memory_len { length memory.now ≡ 16 * self.now.rows.count }
-        requires row_lt_count { row < self.now.rows.count }
+        requires memory_fits { length memory.now ≡ 16 * self.now.rows.count }
+        requires row_within { row < self.now.rows.count }
         ensures { result ≡ row_of
             (both (H.Forkcipher.maps home.now) (A.Forkcipher.maps away.now))
             self.now memory.now row }
@@ -38,8 +38,8 @@ impl Strip {
 
     // Stores a block in a row.
     pub(crate) fn set_row(&self, memory: &mut [u8], row: usize, block: [u8; 16])
-        requires memory_len { length memory.old ≡ 16 * self.now.rows.count }
-        requires row_lt_count { row < self.now.rows.count }
+        requires memory_fits { length memory.old ≡ 16 * self.now.rows.count }
+        requires row_within { row < self.now.rows.count }
         ensures { memory.new ≡ flat (slice_set (cells self.now.rows.count memory.old) row block) }
     {
         memory[16 * row..16 * row + 16].copy_from_slice(&block);

@@ -157,7 +157,7 @@ pub(crate) fn led<H: Forkcipher, A: Forkcipher>(
     row: usize,
     block: [u8; 16],
 ) -> [u8; 16]
-    requires row_lt_most_rows { row < most_rows }
+    requires row_within { row < most_rows }
     requires starts { Starts way place.station }
     ensures { result ≡ restored
         (both (H.Forkcipher.maps home.now) (A.Forkcipher.maps away.now))

@@ -22,8 +22,8 @@ impl Strip {
         row: usize,
         sum: [u8; 16],
     ) -> [u8; 16]
-        requires memory_len { length memory.now ≡ 16 * self.now.rows.count }
-        requires row_lt_count { row < self.now.rows.count }
+        requires memory_fits { length memory.now ≡ 16 * self.now.rows.count }
+        requires row_within { row < self.now.rows.count }
         ensures { result ≡ mixed_with
             (both (H.Forkcipher.maps home.now) (A.Forkcipher.maps away.now))
             self.now memory.now row sum }

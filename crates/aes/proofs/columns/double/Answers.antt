@@ -1,5 +1,5 @@
 use Rattle.std.proofs.Common.{◌≡◌, ◌*◌, ◌/◌, ◌%◌, ap, arith}
-use lib.Bits.{bit_xor}
+use Rattle.std.specs.Int.Bits.{bit_xor}
 use Rattle.aes.specs.Field.{doubled}
 use Rattle.aes.proofs.columns.double.Goals as goal
 

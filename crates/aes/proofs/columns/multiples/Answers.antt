@@ -1,5 +1,5 @@
 use Rattle.std.proofs.Common.{one-mul, zero-mul}
-use lib.Bits.{xor_zero_r}
+use Rattle.std.specs.Int.Bits.{xor_zero_r}
 use Rattle.aes.specs.Field.{partial, product}
 use Rattle.aes.proofs.columns.multiples.Goals as goal
 

@@ -1,5 +1,5 @@
 use Rattle.std.proofs.Common.{ℕ, ◌-◌, List, set, sym, ap, ◌∙◌, arith, lit<, rules}
-use lib.Bits.{bit_xor}
+use Rattle.std.specs.Int.Bits.{bit_xor}
 use Rattle.aes.specs.Block.{at}
 use Rattle.aes.specs.Keys.{key_byte, next_key}
 use Rattle.aes.proofs.Loops.{written_none, written_more, written_all}

@@ -1,5 +1,5 @@
 use Rattle.std.proofs.Common.{ℕ, refl, rules}
-use lib.Bits.{bit_xor}
+use Rattle.std.specs.Int.Bits.{bit_xor}
 use Rattle.aes.specs.Block.{at, xored}
 use Rattle.aes.proofs.Loops.{written_none, written_more, written_all}
 use Rattle.interfaces.proofs.bytes.xor.Goals as goal

@@ -1,4 +1,4 @@
-use lib.Bits.{bit_xor}
+use Rattle.std.specs.Int.Bits.{bit_xor}
 use Rattle.aes.specs.Block.{at}
 use Rattle.aes.proofs.Loops.{Written}
 use Rattle.interfaces.proofs.bytes.xor.Given as goal

@@ -21,7 +21,7 @@ hand-answer-requires g c =
     let rows = c.loop-i.invariant.0.rows in
     let now = All-get_or (λ x. served c.args.strip.now.rows.count (length c.args.spare.now) (length c.args.blank.now) x ≡ true) c.args.calls.now c.loop-i.i none c.loop-i-test.true b.room in
     record {
-      memory_len = c.loop-i.auto.memory ∙ b.fit ∙ ap (λ n. 16 * n) (sym rows);
+      memory_fits = c.loop-i.auto.memory ∙ b.fit ∙ ap (λ n. 16 * n) (sym rows);
       call_served = served_kept (get_or c.args.calls.now c.loop-i.i none) rows c.loop-i.auto.spare c.loop-i.auto.blank now;
     }
 

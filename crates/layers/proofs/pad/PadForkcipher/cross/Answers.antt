@@ -1,4 +1,4 @@
-use borrow.Author.Rules.{rules}
+use Rattle.std.proofs.Common.{rules}
 use Rattle.aes.specs.Block.{Bytes, xored}
 use Rattle.aes.proofs.Blocks.{xored_bytes, xored_twice}
 use Rattle.layers.proofs.pad.PadForkcipher.cross.Goals as goal

@@ -7,4 +7,4 @@ returns c =
     let k = c.args.row in
     let m = c.args.memory.now in
     let sixteen : 16 * k + 16 - 16 * k ≡ 16 = omega arith in
-    c.copy_from_slice.ensures.after ∙ ap (λ n. take n (drop (16 * k) m)) sixteen ∙ sym (get_or-cells c.args.self.now.rows.count m k c.requires.row_lt_count)
+    c.copy_from_slice.ensures.after ∙ ap (λ n. take n (drop (16 * k) m)) sixteen ∙ sym (get_or-cells c.args.self.now.rows.count m k c.requires.row_within)

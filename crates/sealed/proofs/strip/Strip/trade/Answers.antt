@@ -10,5 +10,5 @@ returns g c =
     let i = c.args.first in
     let j = c.args.second in
     let sized : Sized c.copied-a.result = search rules in
-    put_twice n m c.set_row.new.memory c.set_row-2.new.memory i j _ _ c.requires.memory_len sized c.set_row.ensures c.set_row-2.ensures
+    put_twice n m c.set_row.new.memory c.set_row-2.new.memory i j _ _ c.requires.memory_fits sized c.set_row.ensures c.set_row-2.ensures
     ∙ ap₂ (λ x y. flat (set (set (cells n m) i x) j y)) c.copied-a.ensures c.copied-b.ensures
