@@ -1,23 +1,22 @@
 -- A verdict is sound exactly for a strip file.
-use Rattle.std.proofs.Common.{◌≡◌, ℕ, zero, suc, ◌+◌, ◌-◌, ◌*◌, ◌<◌, ◌≤◌, true, List, length, drop, is_ok, Ok, Err, Decides, Result, sym, refl, ap, ◌∙◌, subst, ⊎_elim, arith, length-drop}
-use Rattle.std.proofs.lemmas.List.{length-take-le}
+use Rattle.std.proofs.Common.{◌≡◌, ℕ, zero, suc, ◌+◌, ◌-◌, ◌*◌, ◌<◌, ◌≤◌, true, List, length, is_ok, None, Ok, Err, Decides, Result, sym, refl, ap, ◌∙◌, subst, ⊎_elim, arith}
 use Rattle.std.proofs.lemmas.Bool.{cases_eq}
 use Rattle.std.proofs.lemmas.Bool.Decides.{nat_tests}
 use Rattle.files.specs.declared.fault.FileFault.{FileFault}
 use Rattle.files.specs.declared.record.Record.{Record}
 use Rattle.files.specs.declared.fault.FileFault.TheVariants.{Short}
+use Rattle.std.specs.Result.{result_err, IsOk}
+use Rattle.files.specs.Checks.{faulty_field}
 use Rattle.files.specs.Faults.{sound, is_sound, answer}
-use Rattle.files.specs.Layout.{trailer, entries_start, count, most_entries, entries, entry_start, entry, number, station, pile, rows, body_start, rows_before}
-use Rattle.files.specs.Records.{station_number, pile_number, station_of, pile_of, record_of, Reads}
+use Rattle.files.specs.Layout.{trailer, entries_start, count, most_entries, entries, entry, number, rows_before}
+use Rattle.files.specs.Records.{Reads}
 use Rattle.files.specs.Sound.{EntryFits, IsStripFile}
 use Rattle.files.specs.Verdict.{refuse, ◌and_then◌, trailer_verdict, least_number, entry_verdict, entries_verdict, end_verdict, rest_verdict, verdict}
 use Rattle.files.proofs.Verdicts.{both_sound, sound_first, sound_from, rows_more}
 
-station_back : (n : ℕ) → n ≤ 2 → station_number (station_of n) ≡ n
-station_back n h = grind (arith, nat_tests)
-
-pile_back : (n : ℕ) → n ≤ 1 → pile_number (pile_of n) ≡ n
-pile_back n h = grind (arith, nat_tests)
+ok_of : {T E : Type 0} (r : Result T E) → result_err r ≡ None → IsOk r
+ok_of (Ok x) h = refl
+ok_of (Err e) h = cc
 
 module _ (len : ℕ) (t : List ℕ) (h : trailer_verdict len t ≡ sound) where
   pub trailer_few : count t ≤ most_entries
@@ -131,26 +130,16 @@ module _ (bs : List ℕ) where
     pub file_accepted : IsStripFile bs
     file_accepted = accepted (sound_from (verdict bs) h)
 
-    -- an entry ends before the trailer, and a body before the entries
-    pub entry_within : (i s : ℕ) (t : List ℕ) → i < entries bs → t ≡ trailer bs → s ≡ entries_start t → s + 32 * i + 48 ≤ length bs
-    entry_within i s t lt e is = omega (arith, is ∙ ap entries_start e, file_accepted.entries_end)
+    -- an entry that there is reads as a record
+    pub entry_read : (i : ℕ) (e : List ℕ) (r : Result Record ℕ) → i < entries bs → e ≡ entry bs i → result_err r ≡ faulty_field e → IsOk r
+    entry_read i e r lt is read =
+        let fit = file_accepted.entries_fit i lt in
+        let none : faulty_field (entry bs i) ≡ None = grind (arith, nat_tests) in
+        ok_of r (read ∙ ap faulty_field is ∙ none)
 
-    pub entry_long : (i : ℕ) → i < entries bs → length (entry bs i) ≡ 32
-    entry_long i lt = length-take-le 32 (drop (entry_start bs i) bs) (simp length-drop (omega (arith, file_accepted.entries_end)))
-
-    pub body_within : (i : ℕ) (e : List ℕ) → i < entries bs → e ≡ entry bs i → body_start e + 16 * rows e ≤ length bs
-    body_within i e lt is =
+    -- and its body ends before the entries
+    pub body_within : (i : ℕ) (r : Record) → i < entries bs → Reads (entry bs i) r → r.start + 16 * r.rows ≤ length bs
+    body_within i r lt reads =
         let n : i + 1 + (entries bs - (i + 1)) ≡ entries bs = omega arith in
         let below : rows_before bs (i + 1) ≤ rows_before bs (entries bs) = subst (λ m. rows_before bs (i + 1) ≤ rows_before bs m) n (rows_below (i + 1) (entries bs - (i + 1))) in
-        omega (arith, ap body_start is, ap rows is, (file_accepted.entries_fit i lt).body_follows, rows_more bs i, file_accepted.bodies_end, file_accepted.entries_end)
-
-    -- the record that is read of an entry
-    pub entry_read : (i : ℕ) (r : Record) → i < entries bs → r ≡ record_of (entry bs i) → Reads (entry bs i) r
-    entry_read i r lt is =
-        let fit = file_accepted.entries_fit i lt in
-        record {
-          is = is;
-          station_named = ap (λ x. station_number x.station) is ∙ station_back (station (entry bs i)) fit.station_known;
-          pile_named = ap (λ x. pile_number x.pile) is ∙ pile_back (pile (entry bs i)) fit.pile_known;
-          rows_few = omega (arith, ap (λ x. x.rows) is, fit.rows_few);
-        }
+        omega (arith, ap (λ x. x.start) reads.is, ap (λ x. x.rows) reads.is, (file_accepted.entries_fit i lt).body_follows, rows_more bs i, file_accepted.bodies_end, file_accepted.entries_end)

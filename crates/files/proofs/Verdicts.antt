@@ -1,5 +1,5 @@
 -- Verdicts one after another, and one turn over the entries.
-use Rattle.std.proofs.Common.{◌≡◌, ℕ, zero, suc, ◌+◌, ◌-◌, ◌*◌, ◌<◌, true, List, take, drop, sym, refl, ap, ◌∙◌, add-one, arith}
+use Rattle.std.proofs.Common.{◌≡◌, ℕ, zero, suc, ◌+◌, ◌-◌, ◌*◌, ◌<◌, true, List, sym, refl, ap, ◌∙◌, add-one, arith}
 use Rattle.std.proofs.lemmas.List.FromFn.{sum_by-map-range_with_len_more}
 use Rattle.files.specs.Faults.{Fault, Verdict, sound, refused, is_sound}
 use Rattle.files.specs.Layout.{entry_start, entry, number, rows, rows_before}
@@ -23,13 +23,9 @@ both_sound sound w h = (refl, h)
 both_sound (refused f) w h = absurd (grind arith)
 
 module _ (bs : List ℕ) where
-  -- the part of the bytes that is an entry
-  pub entry_cut : (at i : ℕ) → at ≡ entry_start bs i → take (at + 32 - at) (drop at bs) ≡ entry bs i
-  entry_cut at i is = let e : at + 32 - at ≡ 32 = omega arith in rw (e, is)
-
   -- what a check of an entry's fields says of the entry
-  pub fields_of : {v : Verdict} (i at least sum : ℕ) → at ≡ entry_start bs i → least ≡ least_number bs i → sum ≡ rows_before bs i → v ≡ fields_verdict i (take (at + 32 - at) (drop at bs)) at least (16 * sum) → v ≡ entry_verdict bs i
-  fields_of i at least sum p q r h = h ∙ (λ j. fields_verdict i (entry_cut at i p j) (p j) (q j) (16 * r j))
+  pub fields_of : {v : Verdict} (i at least sum : ℕ) (e : List ℕ) → e ≡ entry bs i → at ≡ entry_start bs i → least ≡ least_number bs i → sum ≡ rows_before bs i → v ≡ fields_verdict i e at least (16 * sum) → v ≡ entry_verdict bs i
+  fields_of i at least sum e is p q r h = h ∙ (λ j. fields_verdict i (is j) (p j) (q j) (16 * r j))
 
   pub rows_more : (i : ℕ) → rows_before bs (i + 1) ≡ rows_before bs i + rows (entry bs i)
   unfolding rows_before

@@ -1,5 +1,5 @@
 -- What each answer of the crate tells.
-use Rattle.std.specs.Prelude.{◌≡◌, ℕ, ◌<◌, ◌≤◌, Bool, true, false, List, Ok, Err, Result}
+use Rattle.std.specs.Prelude.{◌≡◌, ℕ, ◌<◌, ◌≤◌, Bool, true, false, List, ◌++◌, codes, decimal, Ok, Err, Result}
 use Rattle.strips.specs.Faults as strip
 use Rattle.files.specs.declared.fault.FileFault.{FileFault}
 use Rattle.files.specs.declared.fault.FileFault.TheVariants.{Short, Mark, Edition, Shape, Field, Order, BodyStart, TotalRows, NoSuchEntry, Stamp, ShortOutput, Strip}
@@ -29,6 +29,14 @@ told (NoSuchEntry entry) = fault 13 entry 0
 told (Stamp entry byte) = fault 14 entry byte
 told (ShortOutput entry) = fault 15 entry 0
 told (Strip entry f) = record { number = (strip.told f).number; entry = entry; byte = 0; row = (strip.told f).row }
+
+-- a refusal in words
+abbrev pub figures_text : Fault → List ℕ
+figures_text f = codes "fault " ++ decimal f.number ++ codes " at entry " ++ decimal f.entry ++ codes ", byte " ++ decimal f.byte
+
+abbrev pub fault_text : FileFault → List ℕ
+fault_text (Strip entry f) = codes "entry " ++ decimal entry ++ codes ": " ++ strip.fault_text f
+fault_text f = figures_text (told f)
 
 pub data Verdict : Type 0 where
   sound : Verdict

@@ -53,6 +53,10 @@ entry_start bs i = entries_start (trailer bs) + 32 * i
 abbrev pub entry : List ℕ → ℕ → List ℕ
 entry bs i = part bs (entry_start bs i) 32
 
+-- the bytes of all entries
+unfoldable pub slots : List ℕ → List (List ℕ)
+slots bs = map (entry bs) (range_with_len 0 (entries bs))
+
 -- the fields of an entry
 abbrev pub number : List ℕ → ℕ
 number e = be16 e 0

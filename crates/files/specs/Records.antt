@@ -5,19 +5,10 @@ use Rattle.strips.specs.declared.place.Station.{Station}
 use Rattle.strips.specs.declared.place.Station.TheVariants.{Plain, Left, Right}
 use Rattle.strips.specs.declared.place.Pile.{Pile}
 use Rattle.strips.specs.declared.place.Pile.TheVariants.{Home, Away}
+use Rattle.strips.specs.Places.{station_number, pile_number}
 use Rattle.strips.specs.Rows.{most_rows}
 use Rattle.files.specs.declared.record.Record.{Record}
 use Rattle.files.specs.Layout.{entries, entry, number, station, pile, rows, body_start, stamp}
-
--- the numbers of the stations and of the piles in a file
-abbrev pub station_number : Station → ℕ
-station_number Plain = 0
-station_number Left = 1
-station_number Right = 2
-
-abbrev pub pile_number : Pile → ℕ
-pile_number Home = 0
-pile_number Away = 1
 
 -- the station that has a number, and the pile
 abbrev pub station_of : ℕ → Station

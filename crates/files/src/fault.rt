@@ -1,11 +1,13 @@
 // Why a strip file, or a call on one, is refused.
-ghost use Rattle.std.specs.Prelude.{◌≡◌};
-ghost use Rattle.files.specs.Faults.{told};
+ghost use Rattle.std.specs.Prelude.{◌≡◌, Some};
+ghost use Rattle.files.specs.Faults.{told, fault_text};
 
+use std::error::Error;
+use std::fmt;
 use strips::StripFault;
 
 // `entry` counts the entries fully checked, or is the entry that a call named; `byte` is where the faulty field begins.
-#[derive(Clone, Copy)]
+#[derive(Clone, Copy, PartialEq, Eq, Debug)]
 pub enum FileFault {
     // A file of under 16 bytes.
     Short,
@@ -54,14 +56,14 @@ impl FileFault {
         ensures { result ≡ (told self).entry }
     {
         match self {
-            FileFault::Field { entry, .. } => entry,
-            FileFault::Order { entry, .. } => entry,
-            FileFault::BodyStart { entry, .. } => entry,
-            FileFault::TotalRows { entry, .. } => entry,
-            FileFault::NoSuchEntry { entry } => entry,
-            FileFault::Stamp { entry, .. } => entry,
-            FileFault::ShortOutput { entry } => entry,
-            FileFault::Strip { entry, .. } => entry,
+            FileFault::Field { entry, .. }
+            | FileFault::Order { entry, .. }
+            | FileFault::BodyStart { entry, .. }
+            | FileFault::TotalRows { entry, .. }
+            | FileFault::NoSuchEntry { entry }
+            | FileFault::Stamp { entry, .. }
+            | FileFault::ShortOutput { entry }
+            | FileFault::Strip { entry, .. } => entry,
             _ => 0,
         }
     }
@@ -71,14 +73,14 @@ impl FileFault {
         ensures { result ≡ (told self).byte }
     {
         match self {
-            FileFault::Mark { byte } => byte,
-            FileFault::Edition { byte } => byte,
-            FileFault::Shape { byte } => byte,
-            FileFault::Field { byte, .. } => byte,
-            FileFault::Order { byte, .. } => byte,
-            FileFault::BodyStart { byte, .. } => byte,
-            FileFault::TotalRows { byte, .. } => byte,
-            FileFault::Stamp { byte, .. } => byte,
+            FileFault::Mark { byte }
+            | FileFault::Edition { byte }
+            | FileFault::Shape { byte }
+            | FileFault::Field { byte, .. }
+            | FileFault::Stamp { byte, .. }
+            | FileFault::Order { byte, .. }
+            | FileFault::BodyStart { byte, .. }
+            | FileFault::TotalRows { byte, .. } => byte,
             _ => 0,
         }
     }
@@ -93,3 +95,19 @@ impl FileFault {
         }
     }
 }
+
+impl fmt::Display for FileFault {
+    ghost output = { λ f. Some (fault_text f) };
+
+    fn fmt<W: fmt::Write>(&self, f: &mut fmt::Formatter<W>) -> fmt::Result {
+        match *self {
+            FileFault::Strip { entry, fault } => write!(f, "entry {entry}: {fault}"),
+            _ => {
+                let (number, entry, byte) = (self.number(), self.entry(), self.byte());
+                write!(f, "fault {number} at entry {entry}, byte {byte}")
+            }
+        }
+    }
+}
+
+impl Error for FileFault {}

@@ -1,26 +1,66 @@
-// Numbers in a file, most significant byte first, and its parts.
-ghost use Rattle.std.specs.Prelude.{◌≡◌, ◌+◌, ◌≤◌, length};
-ghost use Rattle.files.specs.Layout.{be16, be32, trailer};
+// The parts of a file.
+ghost use Rattle.std.specs.Prelude.{◌≡◌, ◌+◌, ◌*◌, ◌≤◌, length};
+ghost use Rattle.files.specs.Checks.{trailer_fields};
+ghost use Rattle.files.specs.Layout.{part, slots, trailer as file_trailer};
 
-pub(crate) fn get16(bytes: &[u8], at: usize) -> u16
-    requires { at + 2 ≤ length bytes.now }
-    ensures { result ≡ be16 bytes.now at }
+// The N bytes from byte `at` on.
+pub(crate) fn cut<const N: usize>(bytes: &[u8], at: usize) -> [u8; N]
+    requires { at + N ≤ length bytes.now }
+    ensures { result ≡ part bytes.now at N }
 {
-    u16::from_be_bytes([bytes[at], bytes[at + 1]])
+    let mut cut = [0u8; N];
+    cut.copy_from_slice(&bytes[at..at + N]);
+    cut
 }
 
-pub(crate) fn get32(bytes: &[u8], at: usize) -> u32
-    requires { at + 4 ≤ length bytes.now }
-    ensures { result ≡ be32 bytes.now at }
-{
-    u32::from_be_bytes([bytes[at], bytes[at + 1], bytes[at + 2], bytes[at + 3]])
+// The fields of a trailer.
+#[derive(Clone, Copy)]
+pub(crate) struct Trailer {
+    // The byte where the entries begin.
+    pub(crate) start: u32,
+    pub(crate) count: u16,
+    pub(crate) edition: u8,
+    pub(crate) spare: u8,
+    // The rows of all strips.
+    pub(crate) total: u32,
+    pub(crate) mark: u32,
 }
 
-pub(crate) fn trailer_of(bytes: &[u8]) -> &[u8]
-    requires { 16 ≤ length bytes.now }
-    ensures is { result.now ≡ trailer bytes.now }
-    ensures long { length result.now ≡ 16 }
-{
-    let at = bytes.len() - 16;
-    &bytes[at..at + 16]
+// A file that is long enough for a trailer, and what stands there.
+#[derive(Clone, Copy)]
+pub(crate) struct Parts<'a> {
+    pub(crate) bytes: &'a [u8],
+    pub(crate) trailer: Trailer,
+    ghost long: { 16 ≤ length bytes.now },
+    ghost is: { trailer ≡ trailer_fields (file_trailer bytes.now) },
+}
+
+impl<'a> Parts<'a> {
+    pub(crate) fn of(bytes: &'a [u8]) -> Parts<'a>
+        requires { 16 ≤ length bytes.now }
+        ensures { result.bytes.now ≡ bytes.now }
+    {
+        let trailer: [u8; 16] = cut(bytes, bytes.len() - 16);
+        Parts {
+            bytes,
+            trailer: Trailer {
+                start: u32::from_be_bytes(cut(&trailer, 0)),
+                count: u16::from_be_bytes(cut(&trailer, 4)),
+                edition: trailer[6],
+                spare: trailer[7],
+                total: u32::from_be_bytes(cut(&trailer, 8)),
+                mark: u32::from_be_bytes(cut(&trailer, 12)),
+            },
+        }
+    }
+
+    // The bytes of the entries, where these end at the trailer.
+    pub(crate) fn slots(self) -> &'a [[u8; 32]]
+        requires { self.trailer.start + 32 * self.trailer.count + 16 ≡ length self.bytes.now }
+        ensures { result.now ≡ slots self.entry.bytes.now }
+    {
+        // What is left is the trailer.
+        let (slots, _) = self.bytes[self.trailer.start as usize..].as_chunks();
+        slots
+    }
 }

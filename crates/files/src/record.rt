@@ -1,11 +1,13 @@
 // An entry's fields.
-ghost use Rattle.std.specs.Prelude.{◌≡◌, length};
-ghost use Rattle.files.specs.Records.{station_of, pile_of, record_of};
+ghost use Rattle.std.specs.Prelude.{◌≡◌, IfOk};
+ghost use Rattle.std.specs.Result.{result_err};
+ghost use Rattle.files.specs.Checks.{faulty_field};
+ghost use Rattle.files.specs.Records.{Reads};
 
-use crate::parts::{get16, get32};
-use strips::{Pile, Station};
+use crate::parts::cut;
+use strips::{Pile, RowCount, Station};
 
-#[derive(Clone, Copy)]
+#[derive(Clone, Copy, PartialEq, Eq, Debug)]
 pub struct Record {
     pub number: u16,
     pub station: Station,
@@ -16,38 +18,26 @@ pub struct Record {
     pub stamp: [u8; 16],
 }
 
-fn station(number: u8) -> Station
-    ensures { result ≡ station_of number }
-{
-    match number {
-        0 => Station::Plain,
-        1 => Station::Left,
-        _ => Station::Right,
-    }
-}
-
-fn pile(number: u8) -> Pile
-    ensures { result ≡ pile_of number }
-{
-    match number {
-        0 => Pile::Home,
-        _ => Pile::Away,
-    }
-}
-
-// The record that an entry's 32 bytes write.
-pub(crate) fn read(entry: &[u8]) -> Record
-    requires { length entry.now ≡ 32 }
-    ensures { result ≡ record_of entry.now }
-{
-    let mut stamp = [0u8; 16];
-    stamp.copy_from_slice(&entry[16..32]);
-    Record {
-        number: get16(entry, 0),
-        station: station(entry[2]),
-        pile: pile(entry[3]),
-        rows: get32(entry, 4),
-        start: get32(entry, 8),
-        stamp,
+impl Record {
+    // The record that an entry's bytes write; else where the first of its fields that is at fault begins in them.
+    pub(crate) fn read(entry: &[u8; 32]) -> Result<Record, usize>
+        ensures fault { result_err result ≡ faulty_field entry.now }
+        ensures reads { IfOk result (Reads entry.now) }
+    {
+        let station = Station::try_from(entry[2]).map_err(|_| 2usize)?;
+        let pile = Pile::try_from(entry[3]).map_err(|_| 3usize)?;
+        let rows = u32::from_be_bytes(cut(entry, 4));
+        RowCount::new(rows as usize).ok_or(4usize)?;
+        if u32::from_be_bytes(cut(entry, 12)) != 0 {
+            return Err(12);
+        }
+        Ok(Record {
+            number: u16::from_be_bytes(cut(entry, 0)),
+            station,
+            pile,
+            rows,
+            start: u32::from_be_bytes(cut(entry, 8)),
+            stamp: cut(entry, 16),
+        })
     }
 }

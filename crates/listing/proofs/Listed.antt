@@ -1,5 +1,5 @@
 -- How long the lines of a listing are, and which lines are listed.
-use Rattle.std.proofs.Common.{◌≡◌, ℕ, ◌+◌, ◌*◌, ◌^◌, ◌<◌, ◌≤◌, List, [], ◌++◌, length, decimal, sum, sym, ap, ◌∙◌, arith, length-append}
+use Rattle.std.proofs.Common.{◌≡◌, ℕ, ◌+◌, ◌*◌, ◌^◌, ◌<◌, ◌≤◌, List, [], ◌++◌, length, decimal, sum, sym, subst, ap, ◌∙◌, arith, length-append}
 use mathlib.Core.List.{map-map}
 use Rattle.std.specs.List.{range_with_len, flat_map}
 use Rattle.std.proofs.lemmas.List.FromFn.{length-map-range_with_len, map-range_with_len_more, sum_by-map-range_with_len_more}
@@ -11,6 +11,7 @@ use Rattle.strips.specs.declared.place.Station.{Station}
 use Rattle.strips.specs.declared.place.Station.TheVariants.{Plain, Left, Right}
 use Rattle.strips.specs.declared.place.Pile.{Pile}
 use Rattle.strips.specs.declared.place.Pile.TheVariants.{Home, Away}
+use Rattle.strips.specs.Places.{station_word, pile_word}
 use Rattle.strips.specs.Rows.{most_rows}
 use Rattle.files.specs.declared.record.Record.{Record}
 use Rattle.files.specs.Faults.{Fault, sound, refused}
@@ -18,43 +19,42 @@ use Rattle.files.specs.Layout.{most_entries, entries, entry, rows, rows_before}
 use Rattle.files.specs.Records.{record_of, first_records, records}
 use Rattle.files.specs.Sound.{IsStripFile}
 use Rattle.files.specs.Verdict.{verdict}
-use Rattle.listing.specs.Lengths.{longest_record, longest_total, longest_fault}
+use Rattle.listing.specs.Lengths.{longest_record}
 use Rattle.listing.specs.Text.{Put}
-use Rattle.listing.proofs.Laid.{put_as, put_within}
-use Rattle.listing.specs.Listing.{station_word, pile_word, record_line, total_line, fault_line, row_sum, records_listing, refused_line, too_long_line, listing_by, listing, most_input, Totals, Lists}
+use Rattle.listing.proofs.Laid.{put_within}
+use Rattle.listing.specs.Listing.{record_line, total_line, row_sum, records_listing, refused_line, too_long_line, listing_by, listing, most_input, Totals, Lists}
 
-pub length-record_line : (r : Record) → length (record_line r) ≡ length (decimal r.number) + length (decimal r.rows) + length (station_word r.station) + length (pile_word r.pile) + 28
-unfolding record_line
-length-record_line r = simp length-append (omega arith)
+-- how many digits the numbers of a line have
+pub number_short : (n : ℕ) → n < 2 ^ 16 → length (decimal n) ≤ 5
+number_short n small = length-decimal-le 5 n (omega arith) (omega arith) (omega arith)
 
-pub length-total_line : (n s : ℕ) → length (total_line n s) ≡ length (decimal n) + length (decimal s) + 15
-unfolding total_line
-length-total_line n s = simp length-append (omega arith)
+pub rows_short : (n : ℕ) → n ≤ most_rows → length (decimal n) ≤ 4
+rows_short n few = length-decimal-le 4 n (omega arith) (omega arith) (omega arith)
 
-pub length-fault_line : (words : List ℕ) (n e b : ℕ) → length (fault_line words n e b) ≡ length words + length (decimal n) + length (decimal e) + length (decimal b) + 14
-unfolding fault_line
-length-fault_line words n e b = simp length-append (omega arith)
+pub entries_short : (n : ℕ) → n ≤ most_entries → length (decimal n) ≤ 3
+entries_short n few = length-decimal-le 3 n (omega arith) (omega arith) (omega arith)
 
-station_short : (s : Station) → length (station_word s) ≤ 5
+pub sum_short : (n : ℕ) → n ≤ most_rows * most_entries → length (decimal n) ≤ 7
+sum_short n few = length-decimal-le 7 n (omega arith) (omega arith) (omega arith)
+
+pub any_short : (n : ℕ) → n < 2 ^ 64 → length (decimal n) ≤ 20
+any_short n small = length-decimal-le 20 n (omega arith) (omega arith) small
+
+-- and how long its words are
+pub station_short : (s : Station) → length (station_word s) ≤ 5
 station_short Plain = omega arith
 station_short Left = omega arith
 station_short Right = omega arith
 
-pile_short : (p : Pile) → length (pile_word p) ≤ 4
+pub pile_short : (p : Pile) → length (pile_word p) ≤ 4
 pile_short Home = omega arith
 pile_short Away = omega arith
 
 pub record_short : (r : Record) → r.number < 2 ^ 16 → r.rows ≤ most_rows → length (record_line r) ≤ longest_record
-record_short r n m =
-    omega (arith, length-record_line r, station_short r.station, pile_short r.pile, length-decimal-le 5 r.number (omega arith) (omega arith) (omega arith), length-decimal-le 4 r.rows (omega arith) (omega arith) (omega arith))
+unfolding record_line
+record_short r n m = simp length-append (omega (arith, number_short r.number n, rows_short r.rows m, station_short r.station, pile_short r.pile))
 
-pub total_short : (n s : ℕ) → n ≤ most_entries → s ≤ most_rows * most_entries → length (total_line n s) ≤ longest_total
-total_short n s few small =
-    omega (arith, length-total_line n s, length-decimal-le 3 n (omega arith) (omega arith) (omega arith), length-decimal-le 7 s (omega arith) (omega arith) (omega arith))
-
-pub fault_short : (words : List ℕ) (n e b : ℕ) → n < 2 ^ 64 → e < 2 ^ 64 → b < 2 ^ 64 → length (fault_line words n e b) ≤ length words + longest_fault
-fault_short words n e b small_n small_e small_b =
-    omega (arith, length-fault_line words n e b, length-decimal-le 20 n (omega arith) (omega arith) small_n, length-decimal-le 20 e (omega arith) (omega arith) small_e, length-decimal-le 20 b (omega arith) (omega arith) small_b)
+pub ruleset room = (length-append, number_short, rows_short, entries_short, sum_short, any_short, station_short, pile_short)
 
 -- one record more
 module _ (bs : List ℕ) (i : ℕ) where
@@ -102,5 +102,5 @@ pub listing_sound : (bs : List ℕ) → length bs ≤ most_input → sound ≡ v
 unfolding listing_by
 listing_sound bs fits is = ap (listing_by bs) is ∙ listing_read bs fits
 
-pub lists : {bs before after xs : List ℕ} {r : ℕ} → xs ≡ listing bs → Put before 0 xs after r → Lists bs before after r
-lists {bs} is p = record { lines = put_as is p; within = put_within p; totals = file_totals bs }
+pub lists : {bs before after : List ℕ} {r : ℕ} → Put before 0 (listing bs) after r → Lists bs before after r
+lists {bs} p = record { lines = p; within = put_within p; totals = file_totals bs }

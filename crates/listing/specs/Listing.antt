@@ -1,10 +1,7 @@
 -- The lines that list a strip file.
 use Rattle.std.specs.Prelude.{◌≡◌, ℕ, ◌≤◌, cond, List, ◌++◌, length, codes, decimal, sum_by, nat_lt}
 use Rattle.std.specs.List.{flat_map}
-use Rattle.strips.specs.declared.place.Station.{Station}
-use Rattle.strips.specs.declared.place.Station.TheVariants.{Plain, Left, Right}
-use Rattle.strips.specs.declared.place.Pile.{Pile}
-use Rattle.strips.specs.declared.place.Pile.TheVariants.{Home, Away}
+use Rattle.strips.specs.Places.{station_word, pile_word}
 use Rattle.files.specs.declared.record.Record.{Record}
 use Rattle.files.specs.Faults.{Fault, Verdict, sound, refused}
 use Rattle.files.specs.Layout.{trailer, entries, total_rows}
@@ -12,15 +9,6 @@ use Rattle.files.specs.Records.{records}
 use Rattle.files.specs.Sound.{IsStripFile}
 use Rattle.files.specs.Verdict.{verdict}
 use Rattle.listing.specs.Text.{Put}
-
-abbrev pub station_word : Station → List ℕ
-station_word Plain = codes "plain"
-station_word Left = codes "left"
-station_word Right = codes "right"
-
-abbrev pub pile_word : Pile → List ℕ
-pile_word Home = codes "home"
-pile_word Away = codes "away"
 
 -- the line of a record
 unfoldable pub record_line : Record → List ℕ

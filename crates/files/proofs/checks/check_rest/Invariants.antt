@@ -6,7 +6,7 @@ use Rattle.files.proofs.checks.check_rest.Given as goal
 
 abbrev pub invariant-loop-i : goal.invariant-loop-i
 invariant-loop-i l =
-    (sound ≡ entries_verdict l.bytes l.i)
-    × (l.before.least ≡ least_number l.bytes l.i)
-    × (l.before.rows ≡ rows_before l.bytes l.i)
+    (sound ≡ entries_verdict l.file.bytes.now l.i)
+    × (l.before.least ≡ least_number l.file.bytes.now l.i)
+    × (l.before.rows ≡ rows_before l.file.bytes.now l.i)
     × (l.before.rows ≤ 4096 * l.i)
