@@ -11,5 +11,5 @@ fn main(rt: HostRuntime) -> io::Result<()> {
     rt.stdin().take(65_537).read_to_end(&mut input)?;
     let mut place = [0u8; 16384];
     let used = list(&input, &mut place);
-    rt.stdout().write_all(&place[0..used])
+    rt.stdout().write_all(&place[..used])
 }
