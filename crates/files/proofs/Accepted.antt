@@ -1,15 +1,17 @@
 -- A verdict is sound exactly for a strip file.
-use Rattle.std.proofs.Common.{◌≡◌, ℕ, zero, suc, ◌+◌, ◌-◌, ◌*◌, ◌<◌, ◌≤◌, true, List, length, is_ok, None, Ok, Err, Decides, Result, sym, refl, ap, ◌∙◌, subst, ⊎_elim, arith}
+use Rattle.std.proofs.Common.{◌≡◌, ℕ, zero, suc, ◌+◌, ◌-◌, ◌*◌, ◌<◌, ◌≤◌, true, List, length, slice_index_or, is_ok, None, Ok, Err, Decides, Result, sym, refl, ap, ◌∙◌, subst, ⊎_elim, arith}
 use Rattle.std.proofs.lemmas.Bool.{cases_eq}
 use Rattle.std.proofs.lemmas.Bool.Decides.{nat_tests}
 use Rattle.files.specs.declared.fault.FileFault.{FileFault}
 use Rattle.files.specs.declared.record.Record.{Record}
 use Rattle.files.specs.declared.fault.FileFault.TheVariants.{Short}
+use Rattle.std.proofs.lemmas.List.FromFn.{length-map-range_with_len, get_or-map-range_with_len}
+use Rattle.strips.specs.Rows.{most_rows}
 use Rattle.std.specs.Result.{result_err, IsOk}
 use Rattle.files.specs.Checks.{faulty_field}
 use Rattle.files.specs.Faults.{sound, is_sound, answer}
 use Rattle.files.specs.Layout.{trailer, entries_start, count, most_entries, entries, entry, number, rows_before}
-use Rattle.files.specs.Records.{Reads}
+use Rattle.files.specs.Records.{Reads, first_records, record_of, records}
 use Rattle.files.specs.Sound.{EntryFits, IsStripFile}
 use Rattle.files.specs.Verdict.{refuse, ◌and_then◌, trailer_verdict, least_number, entry_verdict, entries_verdict, end_verdict, rest_verdict, verdict}
 use Rattle.files.proofs.Verdicts.{both_sound, sound_first, sound_from, rows_more}
@@ -131,11 +133,18 @@ module _ (bs : List ℕ) where
     file_accepted = accepted (sound_from (verdict bs) h)
 
     -- an entry that there is reads as a record
+    pub entry_sound : (i : ℕ) → i < entries bs → faulty_field (entry bs i) ≡ None
+    entry_sound i lt = let fit = file_accepted.entries_fit i lt in grind (arith, nat_tests)
+
     pub entry_read : (i : ℕ) (e : List ℕ) (r : Result Record ℕ) → i < entries bs → e ≡ entry bs i → result_err r ≡ faulty_field e → IsOk r
-    entry_read i e r lt is read =
-        let fit = file_accepted.entries_fit i lt in
-        let none : faulty_field (entry bs i) ≡ None = grind (arith, nat_tests) in
-        ok_of r (read ∙ ap faulty_field is ∙ none)
+    entry_read i e r lt is read = ok_of r (read ∙ ap faulty_field is ∙ entry_sound i lt)
+
+    pub records_few : (i : ℕ) (d : Record) → i < length (records bs) → (slice_index_or (records bs) i d).rows ≤ most_rows
+    unfolding first_records
+    records_few i d lt =
+        let n = length-map-range_with_len (λ k. record_of (entry bs k)) 0 (entries bs) in
+        let here = get_or-map-range_with_len (λ k. record_of (entry bs k)) 0 (entries bs) i i d (omega arith) (omega arith) in
+        omega (arith, ap (λ r. r.rows) here, (file_accepted.entries_fit i (omega arith)).rows_few)
 
     -- and its body ends before the entries
     pub body_within : (i : ℕ) (r : Record) → i < entries bs → Reads (entry bs i) r → r.start + 16 * r.rows ≤ length bs

@@ -1,13 +1,17 @@
 // A strip file over the caller's bytes.
 ghost use Rattle.std.specs.Prelude.{◌≡◌, ◌+◌, ◌≤◌, true};
+ghost use Rattle.std.specs.List.{All};
+ghost use Rattle.strips.specs.Rows.{most_rows};
 ghost use Rattle.files.specs.Layout.{most_entries, entries, entry, body, slots};
+ghost use Rattle.files.specs.Left.{records_left};
 ghost use Rattle.files.specs.Faults.{Named, is_sound, sound};
-ghost use Rattle.files.specs.Records.{Reads};
+ghost use Rattle.files.specs.Records.{Reads, records};
 ghost use Rattle.files.specs.Verdict.{verdict};
 
 use crate::fault::FileFault;
 use crate::parts::Parts;
 use crate::record::Record;
+use crate::records::Records;
 
 #[derive(Clone, Copy)]
 pub struct StripFile<'a> {
@@ -53,6 +57,14 @@ impl<'a> StripFile<'a> {
         ensures { Named self.now.bytes.now i (Reads (entry self.now.bytes.now i)) result }
     {
         Ok(Record::read(self.slot(i)?).unwrap())
+    }
+
+    // The records of all entries.
+    pub fn records(&self) -> Records<'a>
+        ensures are { records_left result ≡ records self.now.bytes.now }
+        ensures few { All (λ r. r.rows ≤ most_rows) (records self.now.bytes.now) }
+    {
+        Records::of(self.slots())
     }
 
     // Entry i's body, a part of the file.

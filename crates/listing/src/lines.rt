@@ -39,7 +39,7 @@ impl Page<'_> {
     }
 
     // A refusal's line, behind the words for what was refused.
-    #[tactic(auto, using(crate::proofs::Listed::room))]
+    #[tactic(auto, using(crate::proofs::Listed::room), unfolding(crate::specs::Listing::fault_line))]
     pub(crate) fn put_fault(&mut self, words: &[u8], number: u8, entry: usize, byte: usize)
         requires { HasRoom self.old (length words.now + longest_fault) }
         ensures { Adds self.old (fault_line words.now number entry byte) self.new }

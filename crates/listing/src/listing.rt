@@ -14,18 +14,12 @@ impl Page<'_> {
         requires { HasRoom self.old 16384 }
         ensures { Adds self.old (records_listing (records file.entry.bytes.now)) self.new }
     {
-        let entries = file.count();
         let mut rows = 0;
-        for i in 0..entries {
-            match file.entry(i) {
-                Ok(record) => {
-                    self.put_record(record);
-                    rows += record.rows as usize;
-                }
-                Err(_) => unreachable(),
-            }
+        for record in file.records() {
+            self.put_record(record);
+            rows += record.rows as usize;
         }
-        self.put_total(entries, rows);
+        self.put_total(file.count(), rows);
     }
 
     fn put_listing(&mut self, input: &[u8])
