@@ -1,8 +1,9 @@
 -- How long the lines of a listing are, and which lines are listed.
-use Rattle.std.proofs.Common.{◌≡◌, ℕ, ◌+◌, ◌*◌, ◌^◌, ◌<◌, ◌≤◌, List, [], ◌++◌, length, decimal, sum, sym, subst, ap, ◌∙◌, arith, length-append}
+use Rattle.std.proofs.Common.{◌∷◌, get_or, append_assoc, append-nil, ◌≡◌, ℕ, ◌+◌, ◌*◌, ◌^◌, ◌<◌, ◌≤◌, List, [], ◌++◌, length, decimal, sum, sym, subst, ap, ◌∙◌, arith, length-append}
 use mathlib.Core.List.{map-map}
-use Rattle.std.specs.List.{range_with_len, flat_map}
-use Rattle.std.proofs.lemmas.List.FromFn.{length-map-range_with_len, map-range_with_len_more, sum_by-map-range_with_len_more}
+use Rattle.std.specs.List.{range_with_len, flat_map, All}
+use Rattle.std.proofs.lemmas.Grind.{common_steps}
+use Rattle.std.proofs.lemmas.List.FromFn.{length-map-range_with_len}
 use Rattle.std.proofs.lemmas.Fmt.{length-decimal-le}
 use Rattle.std.proofs.lemmas.List.{flat_map_more}
 use Rattle.std.proofs.lemmas.List.Sums.{sum-map}
@@ -15,7 +16,7 @@ use Rattle.strips.specs.Places.{station_word, pile_word}
 use Rattle.strips.specs.Rows.{most_rows}
 use Rattle.files.specs.declared.record.Record.{Record}
 use Rattle.files.specs.Faults.{Fault, sound, refused}
-use Rattle.files.specs.Layout.{most_entries, entries, entry, rows, rows_before}
+use Rattle.files.specs.Layout.{most_entries, entries, entry, rows_before}
 use Rattle.files.specs.Records.{record_of, first_records, records}
 use Rattle.files.specs.Sound.{IsStripFile}
 use Rattle.files.specs.Verdict.{verdict}
@@ -56,34 +57,38 @@ record_short r n m = simp length-append (omega (arith, number_short r.number n, 
 
 pub ruleset room = (adds_both, length-append, number_short, rows_short, entries_short, sum_short, any_short, station_short, pile_short)
 
--- one record more
-module _ (bs : List ℕ) (i : ℕ) where
-  pub lines_more : flat_map record_line (first_records bs i) ++ record_line (record_of (entry bs i)) ≡ flat_map record_line (first_records bs (i + 1))
-  unfolding first_records
-  lines_more = flat_map_more record_line [] (first_records bs i) (record_of (entry bs i)) ∙ ap (flat_map record_line) (sym (map-range_with_len_more (λ j. record_of (entry bs j)) 0 i i (omega arith)))
-
-  pub rows_more : row_sum (first_records bs (i + 1)) ≡ row_sum (first_records bs i) + rows (entry bs i)
-  unfolding first_records
-  rows_more = sum_by-map-range_with_len_more (λ r. r.rows) (λ j. record_of (entry bs j)) 0 i i (omega arith)
-
 -- the file's own figures
 first_rows : (bs : List ℕ) (n : ℕ) → row_sum (first_records bs n) ≡ rows_before bs n
 unfolding first_records rows_before
 first_rows bs n = sym (sum-map (λ r. r.rows) (first_records bs n)) ∙ ap sum (map-map (λ r. r.rows) (λ i. record_of (entry bs i)) (range_with_len 0 n))
 
-pub file_totals : (bs : List ℕ) → IsStripFile bs → Totals bs
+records_long : (bs : List ℕ) → length (records bs) ≡ entries bs
 unfolding first_records
-file_totals bs f = record {
-  counted = length-map-range_with_len (λ i. record_of (entry bs i)) 0 (entries bs);
-  summed = first_rows bs (entries bs) ∙ sym f.total_is_sum;
-}
+records_long bs = length-map-range_with_len (λ i. record_of (entry bs i)) 0 (entries bs)
 
-pub lines_done : (bs : List ℕ) (n i s : ℕ) → n ≡ entries bs → i ≡ n → s ≡ row_sum (first_records bs i) → flat_map record_line (first_records bs i) ++ total_line n s ≡ records_listing (records bs)
-unfolding records_listing first_records
-lines_done bs n i s is_n is_i is_s =
-    let all : i ≡ entries bs = is_i ∙ is_n in
-    let long : n ≡ length (records bs) = is_n ∙ sym (length-map-range_with_len (λ j. record_of (entry bs j)) 0 (entries bs)) in
-    (λ j. flat_map record_line (first_records bs (all j)) ++ total_line (long j) ((is_s ∙ ap (λ k. row_sum (first_records bs k)) all) j))
+pub file_totals : (bs : List ℕ) → IsStripFile bs → Totals bs
+file_totals bs f = record { counted = records_long bs; summed = first_rows bs (entries bs) ∙ sym f.total_is_sum }
+
+-- the records listed, and those that are left
+module _ (bs : List ℕ) (listed left : List Record) (all : listed ++ left ≡ records bs) where
+  pub listed_few : length listed + length left ≡ entries bs
+  listed_few = sym (length-append listed left) ∙ ap length all ∙ records_long bs
+
+  pub next_few : (r : Record) (others : List Record) → All (λ x. x.rows ≤ most_rows) (records bs) → left ≡ r ∷ others → r.rows ≤ most_rows
+  next_few r others few is =
+      let here : get_or (listed ++ r ∷ others) (length listed) r ≡ r = grind (arith, common_steps) in
+      let same : get_or (records bs) (length listed) r ≡ r = ap (λ rs. get_or rs (length listed) r) (sym all ∙ ap (λ l. listed ++ l) is) ∙ here in
+      omega (arith, ap (λ x. x.rows) same, few (length listed) r (omega (arith, listed_few, ap length is, records_long bs)))
+
+  pub one_more : (r : Record) (others : List Record) → left ≡ r ∷ others → (listed ++ r ∷ []) ++ others ≡ records bs
+  one_more r others is = append_assoc listed (r ∷ []) others ∙ ap (λ l. listed ++ l) (sym is) ∙ all
+
+  pub lines_done : (n s : ℕ) → left ≡ [] → n ≡ entries bs → s ≡ row_sum listed → flat_map record_line listed ++ total_line n s ≡ records_listing (records bs)
+  unfolding records_listing
+  lines_done n s none is_n is_s =
+      let done : listed ≡ records bs = sym (append-nil listed) ∙ ap (λ l. listed ++ l) (sym none) ∙ all in
+      let long : n ≡ length (records bs) = is_n ∙ sym (records_long bs) in
+      (λ j. flat_map record_line (done j) ++ total_line (long j) ((is_s ∙ ap row_sum done) j))
 
 -- which lines are listed
 pub listing_long : (bs : List ℕ) → most_input < length bs → too_long_line ≡ listing bs

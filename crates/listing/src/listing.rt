@@ -14,12 +14,13 @@ impl Page<'_> {
         requires { HasRoom self.old 16384 }
         ensures { Adds self.old (records_listing (records file.entry.bytes.now)) self.new }
     {
+        let entries = file.count();
         let mut rows = 0;
         for record in file.records() {
             self.put_record(record);
             rows += record.rows as usize;
         }
-        self.put_total(file.count(), rows);
+        self.put_total(entries, rows);
     }
 
     fn put_listing(&mut self, input: &[u8])
