@@ -7,6 +7,7 @@ pub(crate) fn long_strips(heap: Global, strips: u16, rows: u32) -> Result<Vec<u8
     let bodies = body.saturating_mul(strips as usize);
     let mut file = vec![in heap; 0u8; bodies]?;
     let mut start = 0u32;
+    // A strip's number is what is counted.
     for number in 0..strips {
         file.extend_from_slice(&number.to_be_bytes())?;
         file.extend_from_slice(&[0, 0])?;

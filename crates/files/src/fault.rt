@@ -32,6 +32,7 @@ pub enum FileFault {
 }
 
 impl FileFault {
+    // Each written out: `as` gives no number where a case holds values.
     pub fn number(self) -> u8
         ensures { result ≡ (told self).number }
     {

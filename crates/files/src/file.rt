@@ -13,6 +13,7 @@ use crate::parts::Parts;
 use crate::record::Record;
 use crate::records::Records;
 
+// The bytes of a file that `check` has accepted.
 #[derive(Clone, Copy)]
 pub struct StripFile<'a> {
     bytes: &'a [u8],
@@ -20,7 +21,7 @@ pub struct StripFile<'a> {
 }
 
 impl<'a> StripFile<'a> {
-    // The file that `check` has accepted.
+    // `check` has accepted the bytes.
     pub fn new(bytes: &'a [u8]) -> StripFile<'a>
         requires { verdict bytes.now ≡ sound }
         ensures { result.bytes.now ≡ bytes.now }

@@ -1,4 +1,4 @@
-// An entry's fields.
+// The record of an entry.
 ghost use Rattle.std.specs.Prelude.{◌≡◌, IfOk};
 ghost use Rattle.std.specs.Result.{result_err};
 ghost use Rattle.files.specs.Checks.{faulty_field};
@@ -7,11 +7,13 @@ ghost use Rattle.files.specs.Records.{Reads};
 use crate::parts::cut;
 use strips::{Pile, RowCount, Station};
 
+// What an entry says of its strip.
 #[derive(Clone, Copy, PartialEq, Eq, Debug)]
 pub struct Record {
     pub number: u16,
     pub station: Station,
     pub pile: Pile,
+    // A number and no `RowCount`: the record that any 32 bytes write is a definition, and only some have few enough rows.
     pub rows: u32,
     // The byte where the body begins.
     pub start: u32,

@@ -22,7 +22,7 @@ use Rattle.files.specs.Sound.{IsStripFile}
 use Rattle.files.specs.Verdict.{verdict}
 use Rattle.listing.specs.Lengths.{longest_record}
 use Rattle.listing.specs.Text.{Put}
-use Rattle.listing.proofs.Laid.{adds_both, put_within}
+use Rattle.listing.proofs.Laid.{put_within}
 use Rattle.listing.specs.Listing.{record_line, total_line, row_sum, records_listing, refused_line, too_long_line, listing_by, listing, most_input, Totals, Lists}
 
 -- how many digits the numbers of a line have
@@ -55,7 +55,7 @@ pub record_short : (r : Record) → r.number < 2 ^ 16 → r.rows ≤ most_rows �
 unfolding record_line
 record_short r n m = simp length-append (omega (arith, number_short r.number n, rows_short r.rows m, station_short r.station, pile_short r.pile))
 
-pub ruleset room = (adds_both, length-append, number_short, rows_short, entries_short, sum_short, any_short, station_short, pile_short)
+pub ruleset room = (length-append, number_short, rows_short, entries_short, sum_short, any_short, station_short, pile_short)
 
 -- the file's own figures
 first_rows : (bs : List ℕ) (n : ℕ) → row_sum (first_records bs n) ≡ rows_before bs n

@@ -12,3 +12,7 @@ longest_total = 25
 -- behind its words
 abbrev pub longest_fault : ℕ
 longest_fault = 74
+
+-- with the words for a file
+abbrev pub longest_refusal : ℕ
+longest_refusal = 85

@@ -1,9 +1,9 @@
-// The lines of a listing.
+// The lines of a listing. Each has labels and figures of its own, which no shared function would spare.
 ghost use Rattle.std.specs.Prelude.{◌+◌, ◌*◌, ◌≤◌, length};
 ghost use Rattle.files.specs.Faults.{told};
 ghost use Rattle.files.specs.Layout.{most_entries};
 ghost use Rattle.strips.specs.Rows.{most_rows};
-ghost use Rattle.listing.specs.Lengths.{longest_record, longest_total, longest_fault};
+ghost use Rattle.listing.specs.Lengths.{longest_record, longest_total, longest_fault, longest_refusal};
 ghost use Rattle.listing.specs.Listing.{record_line, total_line, fault_line, refused_line};
 ghost use Rattle.listing.specs.Text.{HasRoom, Adds};
 
@@ -39,7 +39,7 @@ impl Page<'_> {
     }
 
     // A refusal's line, behind the words for what was refused.
-    #[tactic(auto, using(crate::proofs::Listed::room), unfolding(crate::specs::Listing::fault_line))]
+    #[tactic(auto, using(crate::proofs::Listed::room))]
     pub(crate) fn put_fault(&mut self, words: &[u8], number: u8, entry: usize, byte: usize)
         requires { HasRoom self.old (length words.now + longest_fault) }
         ensures { Adds self.old (fault_line words.now number entry byte) self.new }
@@ -53,7 +53,7 @@ impl Page<'_> {
     // The line of a refused file.
     #[tactic(auto, using(crate::proofs::Listed::room))]
     pub(crate) fn put_refusal(&mut self, fault: FileFault)
-        requires { HasRoom self.old 85 }
+        requires { HasRoom self.old longest_refusal }
         ensures { Adds self.old (refused_line (told fault)) self.new }
     {
         let number = fault.number();

@@ -4,7 +4,7 @@ ghost use Rattle.listing.specs.Text.{HasRoom, Adds};
 
 use itoa::Buffer;
 
-// A place that is filled from its start, and how many of its bytes are used.
+// A place that is filled from its start, and how many of its bytes are used. No String: a library takes no heap.
 #[derive(Drop)]
 pub(crate) struct Page<'a> {
     pub(crate) place: &'a mut [u8],

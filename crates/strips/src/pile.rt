@@ -6,6 +6,7 @@ use crate::place::Pile;
 use crate::unknown::UnknownNumber;
 use std::fmt;
 
+// As for a station. One generic impl for both would have to be handed every number and word of theirs again.
 impl Pile {
     // Its name in plain English.
     pub fn word(self) -> &'static str

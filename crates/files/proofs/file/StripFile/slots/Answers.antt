@@ -1,5 +1,5 @@
 use Rattle.std.proofs.Common.{length, ap, ◌∙◌, arith}
-use Rattle.files.specs.Layout.{entries_start, trailer, entries, slots}
+use Rattle.files.specs.Layout.{entries_start, trailer, entries}
 use Rattle.files.proofs.Accepted.{file_accepted}
 use Rattle.files.proofs.file.StripFile.slots.Goals as goal
 
@@ -12,6 +12,3 @@ slots-requires c =
     let start = ap (λ t. t.start) file.is ∙ ap (λ bs. entries_start (trailer bs)) c.of.ensures in
     let count = ap (λ t. t.count) file.is ∙ ap entries c.of.ensures in
     omega (arith, start, count, ap length c.of.ensures, (file_accepted _ c.args.self.now.accepted).entries_end)
-
-pub returns : goal.returns
-returns c = c.slots.ensures ∙ ap slots c.of.ensures
