@@ -1,10 +1,9 @@
 -- Stamps: a row that differs shows in the sum, and the loop that adds up the rows.
 -- Assumes nothing.
-use Rattle.std.proofs.Common.{◌≡◌, ℕ, zero, suc, ◌+◌, ◌<◌, ◌≤◌, List, [], ◌∷◌, length, get_or, drop, set, sym, refl, ap, ◌∙◌, subst, ap₂, le_of_suc-le-suc, not-suc-le-zero, add-zero, add-suc, suc-add, add-one}
+use Rattle.std.proofs.Common.{◌≡◌, ℕ, zero, suc, ◌+◌, ◌<◌, ◌≤◌, List, [], ◌∷◌, length, get_or, drop, set, sym, refl, ap, ◌∙◌, subst, ap₂, le_of_suc-le-suc, not-suc-le-zero, add-zero, add-suc, suc-add, add-one, All}
 use Rattle.std.specs.Int.Bits.{bit_xor, xor_comm}
 use Rattle.std.proofs.lemmas.List.{drop_all, drop_more, length-set}
-use Rattle.std.proofs.ByRecursion.{All-get_or}
-use Rattle.std.specs.List.{AllByRecursion}
+use Rattle.std.proofs.lemmas.List.Elements.{All-get_or, All-head, All-tail}
 use Rattle.aes.specs.Block.{at, xored}
 use Rattle.aes.proofs.Blocks.{xored_bytes, xored_twice}
 use Rattle.aes.proofs.Table.{same_table}
@@ -70,23 +69,25 @@ module _ (f : ℕ → List ℕ → List ℕ) (block : (k : ℕ) (b : List ℕ) �
   added : (sum : List ℕ) (k : ℕ) (b : List ℕ) → IsBlock sum → IsBlock b → IsBlock (xored 16 sum (f k b))
   added sum k b hs hb = xored_bytes 16 sum (f k b) hs.1 (block k b hb).1
 
-  mixed_cancel : (xs ys : List ℕ) (k : ℕ) (bs : List (List ℕ)) → IsBlock xs → IsBlock ys → AllByRecursion IsBlock bs → mixed f xs k bs ≡ mixed f ys k bs → xs ≡ ys
+  mixed_cancel : (xs ys : List ℕ) (k : ℕ) (bs : List (List ℕ)) → IsBlock xs → IsBlock ys → All IsBlock bs → mixed f xs k bs ≡ mixed f ys k bs → xs ≡ ys
   mixed_cancel xs ys k [] hx hy h e = e
   mixed_cancel xs ys k (b ∷ bs) hx hy h e =
+      let hb = All-head IsBlock b bs h in
       cancel xs ys (f k b) hx hy
-      (mixed_cancel (xored 16 xs (f k b)) (xored 16 ys (f k b)) (suc k) bs (added xs k b hx h.0) (added ys k b hy h.0) h.1 e)
+      (mixed_cancel (xored 16 xs (f k b)) (xored 16 ys (f k b)) (suc k) bs (added xs k b hx hb) (added ys k b hy hb) (All-tail IsBlock b bs h) e)
 
   -- where one row is another, that row's part is the same
-  mixed_one : (sum : List ℕ) (k : ℕ) (bs : List (List ℕ)) (i : ℕ) (c : List ℕ) → IsBlock sum → AllByRecursion IsBlock bs → IsBlock c → i < length bs
+  mixed_one : (sum : List ℕ) (k : ℕ) (bs : List (List ℕ)) (i : ℕ) (c : List ℕ) → IsBlock sum → All IsBlock bs → IsBlock c → i < length bs
       → mixed f sum k bs ≡ mixed f sum k (set bs i c) → f (k + i) (get_or bs i []) ≡ f (k + i) c
   mixed_one sum k [] i c hs h hc lt e = absurd (not-suc-le-zero lt)
   mixed_one sum k (b ∷ bs) zero c hs h hc lt e =
-      let same = mixed_cancel (xored 16 sum (f k b)) (xored 16 sum (f k c)) (suc k) bs (added sum k b hs h.0) (added sum k c hs hc) h.1 e in
-      ap (λ j. f j b) (add-zero k) ∙ cancel_left (f k b) (f k c) sum (block k b h.0) (block k c hc) same ∙ ap (λ j. f j c) (sym (add-zero k))
+      let hb = All-head IsBlock b bs h in
+      let same = mixed_cancel (xored 16 sum (f k b)) (xored 16 sum (f k c)) (suc k) bs (added sum k b hs hb) (added sum k c hs hc) (All-tail IsBlock b bs h) e in
+      ap (λ j. f j b) (add-zero k) ∙ cancel_left (f k b) (f k c) sum (block k b hb) (block k c hc) same ∙ ap (λ j. f j c) (sym (add-zero k))
   mixed_one sum k (b ∷ bs) (suc i) c hs h hc lt e =
       let on = add-suc k i ∙ sym (suc-add k i) in
       ap (λ j. f j (get_or bs i [])) on
-      ∙ mixed_one (xored 16 sum (f k b)) (suc k) bs i c (added sum k b hs h.0) h.1 hc (le_of_suc-le-suc lt) e
+      ∙ mixed_one (xored 16 sum (f k b)) (suc k) bs i c (added sum k b hs (All-head IsBlock b bs h)) (All-tail IsBlock b bs h) hc (le_of_suc-le-suc lt) e
       ∙ ap (λ j. f j c) (sym on)
 
 module _ (m : Maps) (ok : Lawful m) (number : ℕ) where
@@ -104,7 +105,7 @@ module _ (m : Maps) (ok : Lawful m) (number : ℕ) where
   abbrev pub stamp_by : List (List ℕ) → List ℕ
   stamp_by rows = mixed (right_of m number) (head_of m number (length rows)) 0 rows
 
-  pub stamp_one : (rows : List (List ℕ)) (i : ℕ) (c : List ℕ) → AllByRecursion IsBlock rows → IsBlock c → i < length rows → stamp_by rows ≡ stamp_by (set rows i c) → get_or rows i [] ≡ c
+  pub stamp_one : (rows : List (List ℕ)) (i : ℕ) (c : List ℕ) → All IsBlock rows → IsBlock c → i < length rows → stamp_by rows ≡ stamp_by (set rows i c) → get_or rows i [] ≡ c
   stamp_one rows i c h hc lt e =
       right_tells (0 + i) (get_or rows i []) c (All-get_or IsBlock rows i [] lt h) hc
       (mixed_one (right_of m number) right_block (head_of m number (length rows)) 0 rows i c (head_block (length rows)) h hc lt

@@ -5,14 +5,15 @@ use Rattle.std.proofs.lemmas.Bool.{ne_eqb}
 use Rattle.std.proofs.lemmas.List.{length-take-le, take-append-drop}
 use Rattle.strips.specs.declared.fault.StripFault.{StripFault}
 use Rattle.strips.specs.declared.fault.StripFault.TheVariants.{WrongAnswerPlace}
-use Rattle.ledgers.specs.Rows.{Piles, cells, flat}
+use Rattle.ledgers.specs.Rows.{Piles, cells}
+use Rattle.std.specs.List.{concat}
 use Rattle.ledgers.specs.Ledgers.{first, kept_or, no_row, refusal, refused_or, unless, wrong_memory, wrong_place}
 use Rattle.ledgers.specs.Machine.{Made, SoundAct, State, carried, cells_after, place_after, reply, step, step_answer}
 use Rattle.ledgers.specs.declared.call.Act.{Act}
 use Rattle.ledgers.specs.declared.call.Act.TheVariants.{Read, Stamp}
 use Rattle.ledgers.specs.declared.call.Call.{Call}
 use Rattle.ledgers.specs.declared.call.Answer.{Answer}
-use Rattle.ledgers.proofs.Cells.{flat-cells}
+use Rattle.ledgers.proofs.Cells.{concat-cells}
 use Rattle.ledgers.proofs.Steps.{memory_fits}
 use Rattle.ledgers.proofs.Lists.{answer_misfit, step_misfit}
 use Rattle.sealed.specs.Calls.{Shows, call, held, returned, state}
@@ -64,7 +65,7 @@ module _ (piles : Piles) (c : Call) (s : State) (long : c.memory ≡ length s.by
   same_at : (o : Option StripFault) → refusal s.rows c ≡ o → s ≡ kept_or o s (carried piles c.act s)
   same_at (Some f) e = refl
   same_at None e =
-      let bytes = sym (ap flat rows ∙ flat-cells s.rows s.bytes (sym long ∙ memory_fits s.rows c e)) in
+      let bytes = sym (ap concat rows ∙ concat-cells s.rows s.bytes (sym long ∙ memory_fits s.rows c e)) in
       λ i. record { rows = s.rows; place = sym place i; bytes = bytes i }
 
   same : s ≡ step piles c s

@@ -2,7 +2,8 @@
 use Rattle.std.proofs.Common.{◌≡◌, ℕ, ◌*◌, List, length, None, Ok, sym, ap, ◌∙◌}
 use Rattle.std.proofs.lemmas.Bool.{eq-eqb}
 use Rattle.ledgers.specs.Rows.{Small}
-use Rattle.ledgers.specs.Rows.{Piles, cells, flat}
+use Rattle.ledgers.specs.Rows.{Piles, cells}
+use Rattle.std.specs.List.{concat}
 use Rattle.ledgers.specs.Ledgers.{changed, first, kept_or, refusal, refused_or, unless}
 use Rattle.ledgers.specs.Machine.{State, carried, moved}
 use Rattle.ledgers.specs.Laws.{BothLawful}
@@ -35,6 +36,6 @@ module _ (piles : Piles) (ok : BothLawful piles) (s : Strip) (m : List ℕ) (wan
     strip = ap (λ r. at_place (kept_or r (state s m) after).place s) (sym passes);
     memory =
         sym (moved_same piles ok s.place s.rows.count m long small)
-        ∙ ap (λ p. flat (moved piles s.place p (cells s.rows.count m))) there
+        ∙ ap (λ p. concat (moved piles s.place p (cells s.rows.count m))) there
         ∙ ap (λ r. (kept_or r (state s m) after).bytes) (sym passes);
   }

@@ -8,7 +8,8 @@ use Rattle.interfaces.specs.Sides.{other}
 use Rattle.strips.specs.declared.place.Place.{Place}
 use Rattle.strips.specs.declared.place.Station.{Station}
 use Rattle.strips.specs.declared.place.Station.TheVariants.{Plain, Left, Right}
-use Rattle.ledgers.specs.Rows.{Piles, cells, flat, stored}
+use Rattle.ledgers.specs.Rows.{Piles, cells, stored}
+use Rattle.std.specs.List.{concat}
 use Rattle.ledgers.specs.Ledgers.{changed}
 use Rattle.ledgers.specs.Machine.{cells_after, moved, restored}
 use Rattle.ledgers.specs.Stamps.{right_of}
@@ -39,10 +40,10 @@ leads (Anew to) p = to
 
 -- a strip's bytes with one row stored at another place, and with all rows
 abbrev pub row_moved : Piles → Strip → Place → ℕ → List ℕ → List ℕ
-row_moved piles s to k m = let cs = cells s.rows.count m in flat (slice_set cs k (restored piles s.place to k (slice_index_or cs k [])))
+row_moved piles s to k m = let cs = cells s.rows.count m in concat (slice_set cs k (restored piles s.place to k (slice_index_or cs k [])))
 
 abbrev pub all_moved : Piles → Strip → Place → List ℕ → List ℕ
-all_moved piles s to m = flat (moved piles s.place to (cells s.rows.count m))
+all_moved piles s to m = concat (moved piles s.place to (cells s.rows.count m))
 
 -- the plain block of one row, stored for another row of the same strip
 abbrev pub copied_row : Piles → Strip → List ℕ → (from to : ℕ) → List ℕ
@@ -50,7 +51,7 @@ copied_row piles s m from to = stored piles s.place to (row_of piles s m from)
 
 -- a strip's bytes with two rows traded
 abbrev pub traded : Piles → Strip → List ℕ → (first second : ℕ) → List ℕ
-traded piles s m first second = flat (cells_after piles (Exchange first second) s.place (cells s.rows.count m))
+traded piles s m first second = concat (cells_after piles (Exchange first second) s.place (cells s.rows.count m))
 
 -- a block XORed with the right image of a row
 abbrev pub mixed_with : Piles → Strip → List ℕ → ℕ → List ℕ → List ℕ

@@ -1,6 +1,7 @@
 // Rows in the caller's memory.
 ghost use Rattle.std.specs.Prelude.{◌≡◌, ◌-◌, ◌*◌, ◌<◌, ◌≤◌, [], ◌++◌, length, replicate, slice_index_or, slice_set};
-ghost use Rattle.ledgers.specs.Rows.{both, cells, flat};
+ghost use Rattle.ledgers.specs.Rows.{both, cells};
+ghost use Rattle.std.specs.List.{concat};
 ghost use Rattle.sealed.specs.Calls.{row_of};
 
 use crate::Strip;
@@ -40,7 +41,7 @@ impl Strip {
     pub(crate) fn set_row(&self, memory: &mut [u8], row: usize, block: [u8; 16])
         requires memory_fits { length memory.old ≡ 16 * self.now.rows.count }
         requires row_within { row < self.now.rows.count }
-        ensures { memory.new ≡ flat (slice_set (cells self.now.rows.count memory.old) row block) }
+        ensures { memory.new ≡ concat (slice_set (cells self.now.rows.count memory.old) row block) }
     {
         memory[16 * row..16 * row + 16].copy_from_slice(&block);
     }
