@@ -1,8 +1,8 @@
 -- Stamps: a row that differs shows in the sum, and the loop that adds up the rows.
 -- Assumes nothing.
-use Rattle.std.proofs.Common.{◌≡◌, ℕ, zero, suc, ◌+◌, ◌<◌, ◌≤◌, List, [], ◌∷◌, length, get_or, drop, set, sym, refl, ap, ◌∙◌, subst, ap₂, le_of_suc-le-suc, not-suc-le-zero, add-zero, add-suc, suc-add, add-one, All}
+use Rattle.std.proofs.Common.{◌≡◌, ℕ, zero, suc, ◌+◌, ◌<◌, ◌≤◌, List, [], ◌∷◌, length, get_or, drop, set, sym, refl, ap, ◌∙◌, subst, ap₂, le_of_suc-le-suc, not-suc-le-zero, add-zero, add-suc, suc-add, add-one, zero-add, All}
 use Rattle.std.specs.Int.Bits.{bit_xor, xor_comm}
-use Rattle.std.proofs.lemmas.List.{drop_all, drop_more, length-set}
+use Rattle.std.proofs.lemmas.List.{drop_all, drop_more, get_or_default, length-set}
 use Rattle.std.proofs.lemmas.List.Elements.{All-get_or, All-head, All-tail}
 use Rattle.aes.specs.Block.{at, xored}
 use Rattle.aes.proofs.Blocks.{xored_bytes, xored_twice}
@@ -10,10 +10,10 @@ use Rattle.aes.proofs.Table.{same_table}
 use Rattle.interfaces.specs.Maps.{Lawful, Maps}
 use Rattle.interfaces.specs.declared.sides.Side.TheVariants.{Left, Right}
 use Rattle.strips.specs.declared.place.Place.{Place}
-use Rattle.ledgers.specs.Rows.{Piles, IsBlock, row_tweak, header_tweak, cells, opened}
+use Rattle.ledgers.specs.Rows.{Piles, IsBlock, row_tweak, header_tweak, each_row, plain}
 use Rattle.ledgers.specs.Stamps.{header, mixed, right_of, head_of, stamp}
-use Rattle.ledgers.specs.Machine.{plain_row}
-use Rattle.ledgers.proofs.Places.{tweak_bytes, header_block, length-opened, get_or-opened}
+use Rattle.ledgers.proofs.Cells.{get_or-each_row, length-each_row}
+use Rattle.ledgers.proofs.Places.{tweak_bytes, header_block}
 
 -- ---- XOR
 xored_comm : (a b : List ℕ) → xored 16 a b ≡ xored 16 b a
@@ -35,34 +35,37 @@ mixed_more : (f : ℕ → List ℕ → List ℕ) (sum sum' b x : List ℕ) (i : 
 mixed_more f sum sum' b x i rows lt eb ex es =
     ap₂ (λ s k. mixed f s k (drop (i + 1) rows)) (es ∙ ap (xored 16 sum) (ex ∙ ap (f i) eb)) (add-one i) ∙ sym (ap (mixed f sum i) (drop_more rows i [] lt))
 
--- ---- a loop that XORs the right image of one row after the other: the first i are in the sum
-pub record Mixing (piles : Piles) (p : Place) (n : ℕ) (bytes : List ℕ) (i : ℕ) (sum : List ℕ) : Type 0 where
+-- ---- a loop that XORs the right image of one row after the other: the first i of the stored rows cs are in the sum
+pub record Mixing (piles : Piles) (p : Place) (cs : List (List ℕ)) (i : ℕ) (sum : List ℕ) : Type 0 where
   pub long : length sum ≡ 16
-  pub rest : mixed (right_of (piles p.pile) p.number) sum i (drop i (opened piles p n bytes)) ≡ stamp piles p (opened piles p n bytes)
+  pub rest : mixed (right_of (piles p.pile) p.number) sum i (drop i (each_row (plain piles p) 0 cs)) ≡ stamp piles p (each_row (plain piles p) 0 cs)
 
-module _ (piles : Piles) (p : Place) (n : ℕ) (bytes : List ℕ) where
-  pub mixing_none : (sum : List ℕ) → length sum ≡ 16 → sum ≡ head_of (piles p.pile) p.number n → Mixing piles p n bytes 0 sum
-  mixing_none sum long e = record {
-    long = long;
-    rest =
-        ap (λ x. mixed (right_of (piles p.pile) p.number) x 0 (opened piles p n bytes))
-        (e ∙ ap (head_of (piles p.pile) p.number) (sym (length-opened piles p n bytes)));
+module _ (piles : Piles) (p : Place) (cs : List (List ℕ)) where
+  abbrev rows : List (List ℕ)
+  rows = each_row (plain piles p) 0 cs
+
+  long : length rows ≡ length cs
+  long = length-each_row (plain piles p) 0 cs
+
+  pub mixing_none : (n : ℕ) (sum : List ℕ) → length cs ≡ n → length sum ≡ 16 → sum ≡ head_of (piles p.pile) p.number n → Mixing piles p cs 0 sum
+  mixing_none n sum count size e = record {
+    long = size;
+    rest = ap (λ x. mixed (right_of (piles p.pile) p.number) x 0 rows) (e ∙ ap (head_of (piles p.pile) p.number) (sym (long ∙ count)));
   }
 
-  pub mixing_more : (i : ℕ) (sum sum' : List ℕ) → Mixing piles p n bytes i sum → i < n → sum' ≡ xored 16 sum (right_of (piles p.pile) p.number i (plain_row piles p (cells n bytes) i)) → Mixing piles p n bytes (i + 1) sum'
-  mixing_more i sum sum' m lt es =
-      let rows = opened piles p n bytes in
-      let inside : i < length rows = subst (λ k. i < k) (sym (length-opened piles p n bytes)) lt in
+  pub mixing_more : (i : ℕ) (sum sum' b : List ℕ) → Mixing piles p cs i sum → i < length cs → b ≡ get_or cs i b
+      → sum' ≡ xored 16 sum (right_of (piles p.pile) p.number i (plain piles p i b)) → Mixing piles p cs (i + 1) sum'
+  mixing_more i sum sum' b m lt is es =
+      let at_i : plain piles p i b ≡ get_or rows i []
+      = ap (plain piles p i) (is ∙ get_or_default cs i b [] lt) ∙ sym (get_or-each_row (plain piles p) 0 cs i [] lt ∙ ap (λ j. plain piles p j (get_or cs i [])) (zero-add i)) in
       record {
         long = ap length es ∙ xored_long sum _;
-        rest = mixed_more (right_of (piles p.pile) p.number) sum sum' (plain_row piles p (cells n bytes) i) _ i rows inside (get_or-opened piles p n bytes i lt) refl es ∙ m.rest;
+        rest = mixed_more (right_of (piles p.pile) p.number) sum sum' (plain piles p i b) _ i rows (subst (λ k. i < k) (sym long) lt) at_i refl es ∙ m.rest;
       }
 
-  pub mixing_all : (i : ℕ) (sum : List ℕ) → Mixing piles p n bytes i sum → n ≤ i → sum ≡ stamp piles p (opened piles p n bytes)
+  pub mixing_all : (i : ℕ) (sum : List ℕ) → Mixing piles p cs i sum → length cs ≤ i → sum ≡ stamp piles p rows
   mixing_all i sum m le =
-      let rows = opened piles p n bytes in
-      let past : length rows ≤ i = subst (λ k. k ≤ i) (sym (length-opened piles p n bytes)) le in
-      sym (ap (mixed (right_of (piles p.pile) p.number) sum i) (drop_all i rows past)) ∙ m.rest
+      sym (ap (mixed (right_of (piles p.pile) p.number) sum i) (drop_all i rows (subst (λ k. k ≤ i) (sym long) le))) ∙ m.rest
 
 -- ---- sums in which one row differs
 module _ (f : ℕ → List ℕ → List ℕ) (block : (k : ℕ) (b : List ℕ) → IsBlock b → IsBlock (f k b)) where

@@ -1,16 +1,14 @@
 -- What a call on a strip returns and leaves.
 -- Assumes nothing.
-use Rattle.std.specs.Prelude.{◌≡◌, ℕ, Bool, List, length, Some, None, Ok, Err, Decides, Option, Result}
+use Rattle.std.specs.Prelude.{◌≡◌, ℕ, Bool, List, length, Some, None, Ok, Err, Decides, MatchResult, Option, Result}
 use Rattle.strips.specs.declared.place.Place.{Place}
 use Rattle.strips.specs.declared.fault.StripFault.{StripFault}
 use Rattle.ledgers.specs.Rows.{Piles, cells}
-use Rattle.ledgers.specs.Ledgers.{Ledger, first, ledger_lay, lay_refusal, wrong_memory}
+use Rattle.ledgers.specs.Ledgers.{Answer, Ledger, first, ledger_lay, lay_refusal, wrong_memory}
 use Rattle.ledgers.specs.Machine.{State, laid, plain_row, step, step_answer}
 use Rattle.ledgers.specs.Laws.{StandsFor}
 use Rattle.ledgers.specs.declared.call.Act.{Act}
 use Rattle.ledgers.specs.declared.call.Call.{Call}
-use Rattle.ledgers.specs.declared.call.Answer.{Answer}
-use Rattle.ledgers.specs.declared.call.Answer.TheVariants.{Done, Shown, Refused}
 use Rattle.sealed.specs.declared.strip.Strip.{Strip}
 
 -- a strip with its memory, and an act that is handed this memory
@@ -29,14 +27,17 @@ row_of piles s m k = plain_row piles s.place (cells s.rows.count m) k
 
 -- what is returned with an answer, and what an answer place then holds
 abbrev pub returned : Answer → Result (Unit {0}) StripFault
-returned Done = Ok tt
-returned (Shown b) = Ok tt
-returned (Refused f) = Err f
+returned (Ok x) = Ok tt
+returned (Err f) = Err f
 
 abbrev pub held : Answer → List ℕ → List ℕ
-held Done x = x
-held (Shown b) x = b
-held (Refused f) x = x
+held (Ok None) x = x
+held (Ok (Some b)) x = b
+held (Err f) x = x
+
+-- a check that passes where P holds, and else refuses with f
+abbrev pub Checks : {T : Type 0} → Type 0 → StripFault → Result T StripFault → Type 0
+Checks P f r = MatchResult r (λ _. P) (λ e. (¬ P) × (e ≡ f))
 
 -- a call that writes: s and m are the strip and its memory before it, s' and m' after it
 pub record Does (piles : Piles) (a : Act) (s s' : Strip) (m m' : List ℕ) (r : Result (Unit {0}) StripFault) : Type 0 where

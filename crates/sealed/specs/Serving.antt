@@ -8,7 +8,7 @@ use Rattle.interfaces.specs.Sides.{other}
 use Rattle.strips.specs.declared.place.Place.{Place}
 use Rattle.strips.specs.declared.place.Station.{Station}
 use Rattle.strips.specs.declared.place.Station.TheVariants.{Plain, Left, Right}
-use Rattle.ledgers.specs.Rows.{Piles, cells, stored}
+use Rattle.ledgers.specs.Rows.{Piles, cells, each_row, plain, stored}
 use Rattle.std.specs.List.{concat}
 use Rattle.ledgers.specs.Ledgers.{changed}
 use Rattle.ledgers.specs.Machine.{cells_after, moved, restored}
@@ -17,8 +17,8 @@ use Rattle.ledgers.specs.declared.call.Act.TheVariants.{Exchange}
 use Rattle.ledgers.specs.declared.call.Change.TheVariants.{Turn}
 use Rattle.sealed.specs.Calls.{row_of}
 use Rattle.sealed.specs.declared.strip.Strip.{Strip}
-use Rattle.sealed.specs.declared.serving.Way.{Way}
-use Rattle.sealed.specs.declared.serving.Way.TheVariants.{Fork, Back, Cross, Anew}
+use Rattle.sealed.specs.declared.ways.Way.{Way}
+use Rattle.sealed.specs.declared.ways.Way.TheVariants.{Fork, Back, Cross, Anew}
 
 -- the station of a side
 abbrev pub on : Side → Station
@@ -45,14 +45,18 @@ row_moved piles s to k m = let cs = cells s.rows.count m in concat (slice_set cs
 abbrev pub all_moved : Piles → Strip → Place → List ℕ → List ℕ
 all_moved piles s to m = concat (moved piles s.place to (cells s.rows.count m))
 
--- the plain block of one row, stored for another row of the same strip
-abbrev pub copied_row : Piles → Strip → List ℕ → (from to : ℕ) → List ℕ
-copied_row piles s m from to = stored piles s.place to (row_of piles s m from)
+-- a row that is stored at a place, as the place stores it for another row
+abbrev pub copied : Piles → Place → (from to : ℕ) → List ℕ → List ℕ
+copied piles p from to b = stored piles p to (plain piles p from b)
 
 -- a strip's bytes with two rows traded
 abbrev pub traded : Piles → Strip → List ℕ → (first second : ℕ) → List ℕ
 traded piles s m first second = concat (cells_after piles (Exchange first second) s.place (cells s.rows.count m))
 
--- a block XORed with the right image of a row
-abbrev pub mixed_with : Piles → Strip → List ℕ → ℕ → List ℕ → List ℕ
-mixed_with piles s m row sum = xored 16 sum (right_of (piles s.place.pile) s.place.number row (row_of piles s m row))
+-- a block XORed with the right image of a row that is stored so
+abbrev pub mixed_with : Piles → Place → ℕ → List ℕ → List ℕ → List ℕ
+mixed_with piles p row b sum = xored 16 sum (right_of (piles p.pile) p.number row (plain piles p row b))
+
+-- the plain blocks of rows that are stored at a place
+abbrev pub opened_rows : Piles → Place → List (List ℕ) → List (List ℕ)
+opened_rows piles p cs = each_row (plain piles p) 0 cs
