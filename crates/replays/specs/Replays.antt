@@ -1,14 +1,11 @@
 -- What a list of calls on one strip answers and leaves.
 -- Assumes nothing.
 use Rattle.std.specs.Prelude.{◌≡◌, ℕ, List, length, Some, None, Ok, Err, Result}
-use Rattle.strips.specs.declared.fault.StripFault.{StripFault}
 use Rattle.ledgers.specs.Rows.{Piles}
-use Rattle.ledgers.specs.Ledgers.{Ledger, ledger_lay}
+use Rattle.ledgers.specs.Ledgers.{Answer, Ledger, ledger_lay}
 use Rattle.ledgers.specs.Machine.{laid}
 use Rattle.ledgers.specs.Laws.{Follows, StandsFor, ledger_of}
 use Rattle.ledgers.specs.declared.call.Call.{Call}
-use Rattle.ledgers.specs.declared.call.Answer.{Answer}
-use Rattle.ledgers.specs.declared.call.Answer.TheVariants.{Done, Shown, Refused}
 use Rattle.sealed.specs.Calls.{state}
 use Rattle.sealed.specs.declared.strip.Strip.{Strip}
 use Rattle.replays.specs.Ready.{unready, unready_text}
@@ -29,13 +26,3 @@ abbrev pub Replays : Piles → List Call → Lengths → (number : ℕ) (text m 
 Replays piles calls h number text m m' x x' (Ok s) =
     (unready_text (length text) h calls ≡ None) × Follows piles calls (laid number text) (state s m') x' (ledger_lay number text)
 Replays piles calls h number text m m' x x' (Err e) = (unready_text (length text) h calls ≡ Some e) × (m' ≡ m) × (x' ≡ x)
-
--- ---- the steps of it
--- the answer to a call that shows nothing, and to one that shows a block
-abbrev pub told : Result (Unit {0}) StripFault → Answer
-told (Ok u) = Done
-told (Err f) = Refused f
-
-abbrev pub shown : Result (Unit {0}) StripFault → List ℕ → Answer
-shown (Ok u) b = Shown b
-shown (Err f) b = Refused f

@@ -1,6 +1,6 @@
 use Rattle.std.proofs.Common.{◌≡◌, ◌*◌, ◌<◌, ◌≤◌, true, [], length, get_or, sym, refl, ap, ◌∙◌, subst}
 use Rattle.std.proofs.lemmas.List.{get_or_default}
-use Rattle.std.proofs.ByRecursion.{All-get_or}
+use Rattle.std.proofs.lemmas.List.Elements.{All-get_or}
 use Rattle.ledgers.specs.declared.call.Act.TheVariants.{Write}
 use Rattle.ledgers.specs.declared.call.Call.{Call}
 use Rattle.ledgers.proofs.Lists.{going_none, going_more, going_all}
