@@ -26,15 +26,6 @@ both_lawful h a Away = a
 pub tweak_bytes : (u n r : ℕ) → Bytes 8 (tweak u n r)
 tweak_bytes u n r = big_endian_bytes 8 (u * 2 ^ 61 + n * 2 ^ 29 + r)
 
--- ---- the rows that stand in bytes
-module _ (piles : Piles) (p : Place) (n : ℕ) (bytes : List ℕ) where
-  pub length-opened : length (opened piles p n bytes) ≡ n
-  length-opened = length-each_row (plain piles p) 0 (cells n bytes) ∙ length-cells n bytes
-
-  pub get_or-opened : (i : ℕ) → i < n → plain_row piles p (cells n bytes) i ≡ get_or (opened piles p n bytes) i []
-  get_or-opened i lt =
-      sym (get_or-each_row (plain piles p) 0 (cells n bytes) i [] (subst (λ m. i < m) (sym (length-cells n bytes)) lt) ∙ ap (λ j. plain piles p j (get_or (cells n bytes) i [])) (zero-add i))
-
 -- ---- blocks
 -- zeros are bytes, also behind others
 zeros : (n k : ℕ) → get_or (replicate n 0) k 0 < 256

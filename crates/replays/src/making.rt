@@ -117,26 +117,34 @@ fn perform<H: Forkcipher, A: Forkcipher>(
     }
 }
 
+// What a list has at hand for calls that are not handed what fits.
+#[derive(Drop)]
+pub struct Room<'a> {
+    // Memory of any other length is a front part of this.
+    pub spare: &'a mut [u8],
+    // An answer place of any other length is a front part of this.
+    pub blank: &'a mut [u8],
+}
+
 // One call of a list: handed the strip's own memory, or so much of the spare memory as another length names.
 pub(crate) fn hand<H: Forkcipher, A: Forkcipher>(
     piles: &Piles<'_, H, A>,
     strip: &mut Strip,
     memory: &mut [u8],
-    spare: &mut [u8],
-    blank: &mut [u8],
+    room: &mut Room<'_>,
     call: Call,
 ) -> Answer
     requires memory_fits { length memory.old ≡ 16 * strip.old.rows.count }
-    requires call_served { served strip.old.rows.count (length spare.old) (length blank.old) call ≡ true }
+    requires call_served { served strip.old.rows.count (length room.old.spare.now) (length room.old.blank.now) call ≡ true }
     ensures made { Made
         (images H.maps A.maps piles.now)
         call (state strip.old memory.old) (state strip.new memory.new) result }
-    ensures spare { spare.new ≡ spare.old }
-    ensures blank { blank.new ≡ blank.old }
+    ensures spare { room.new.spare.now ≡ room.old.spare.now }
+    ensures blank { room.new.blank.now ≡ room.old.blank.now }
 {
     if call.memory == memory.len() {
-        return perform(piles, strip, memory, blank, call.act);
+        return perform(piles, strip, memory, room.blank, call.act);
     }
     let n = call.memory;
-    perform(piles, strip, &mut spare[0..n], blank, call.act)
+    perform(piles, strip, &mut room.spare[0..n], room.blank, call.act)
 }

@@ -3,6 +3,7 @@ ghost use Rattle.std.specs.Prelude.{◌≡◌};
 ghost use Rattle.replays.specs.declared.ready.Unready.TheVariants.{Refused};
 ghost use Rattle.replays.specs.Ready.{Finds, first_unserved, lengths, place_named, roomy, served, unready, unready_text};
 
+use crate::making::Room;
 use ledgers::{Act, Answer, Call};
 use strips::{RowCount, StripFault};
 
@@ -35,13 +36,13 @@ pub(crate) struct Lengths {
 }
 
 impl Lengths {
-    pub(crate) fn of(memory: &[u8], spare: &[u8], blank: &[u8], answers: &[Answer]) -> Lengths
-        ensures { result ≡ lengths memory.now spare.now blank.now answers.now }
+    pub(crate) fn of(memory: &[u8], room: &Room<'_>, answers: &[Answer]) -> Lengths
+        ensures { result ≡ lengths memory.now room.now.spare.now room.now.blank.now answers.now }
     {
         Lengths {
             memory: memory.len(),
-            spare: spare.len(),
-            blank: blank.len(),
+            spare: room.spare.len(),
+            blank: room.blank.len(),
             answers: answers.len(),
         }
     }

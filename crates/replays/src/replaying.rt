@@ -4,6 +4,7 @@ ghost use Rattle.sealed.specs.Piles.{images};
 ghost use Rattle.replays.specs.Ready.{lengths};
 ghost use Rattle.replays.specs.Replays.{Replays};
 
+use crate::making::Room;
 use crate::ready::{Lengths, Unready, check_text};
 use crate::resuming::make_all;
 use interfaces::Forkcipher;
@@ -16,21 +17,20 @@ pub fn replay<H: Forkcipher, A: Forkcipher>(
     number: u16,
     text: &[u8],
     memory: &mut [u8],
-    spare: &mut [u8],
-    blank: &mut [u8],
+    room: &mut Room<'_>,
     calls: &[Call],
     answers: &mut [Answer],
 ) -> Result<Strip, Unready>
     ensures law { Replays
         (images H.maps A.maps piles.now)
-        calls.now (lengths memory.old spare.old blank.old answers.old)
+        calls.now (lengths memory.old room.old.spare.now room.old.blank.now answers.old)
         number text.now memory.old memory.new answers.old answers.new result }
-    ensures spare { spare.new ≡ spare.old }
-    ensures blank { blank.new ≡ blank.old }
+    ensures spare { room.new.spare.now ≡ room.old.spare.now }
+    ensures blank { room.new.blank.now ≡ room.old.blank.now }
 {
-    let held = Lengths::of(memory, spare, blank, answers);
+    let held = Lengths::of(memory, room, answers);
     check_text(text.len(), held, calls)?;
     let mut strip = Strip::lay(number, text, memory)?;
-    make_all(piles, &mut strip, memory, spare, blank, calls, answers);
+    make_all(piles, &mut strip, memory, room, calls, answers);
     Ok(strip)
 }

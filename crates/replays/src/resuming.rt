@@ -6,7 +6,7 @@ ghost use Rattle.sealed.specs.Piles.{images};
 ghost use Rattle.replays.specs.Ready.{lengths, unready};
 ghost use Rattle.replays.specs.Replays.{Resumes};
 
-use crate::making::hand;
+use crate::making::{Room, hand};
 use crate::ready::{Lengths, Unready, check};
 use interfaces::Forkcipher;
 use ledgers::{Answer, Call};
@@ -17,20 +17,19 @@ pub(crate) fn make_all<H: Forkcipher, A: Forkcipher>(
     piles: &Piles<'_, H, A>,
     strip: &mut Strip,
     memory: &mut [u8],
-    spare: &mut [u8],
-    blank: &mut [u8],
+    room: &mut Room<'_>,
     calls: &[Call],
     answers: &mut [Answer],
 )
-    requires { unready strip.old.rows.count (lengths memory.old spare.old blank.old answers.old) calls.now ≡ None }
+    requires { unready strip.old.rows.count (lengths memory.old room.old.spare.now room.old.blank.now answers.old) calls.now ≡ None }
     ensures ran { Ran
         (images H.maps A.maps piles.now)
         calls.now (state strip.old memory.old) (state strip.new memory.new) answers.new }
-    ensures spare { spare.new ≡ spare.old }
-    ensures blank { blank.new ≡ blank.old }
+    ensures spare { room.new.spare.now ≡ room.old.spare.now }
+    ensures blank { room.new.blank.now ≡ room.old.blank.now }
 {
     for (i, call) in calls.iter().enumerate() {
-        let answer = hand(piles, strip, memory, spare, blank, *call);
+        let answer = hand(piles, strip, memory, room, *call);
         answers[i] = answer;
     }
 }
@@ -40,20 +39,19 @@ pub fn resume<H: Forkcipher, A: Forkcipher>(
     piles: &Piles<'_, H, A>,
     strip: &mut Strip,
     memory: &mut [u8],
-    spare: &mut [u8],
-    blank: &mut [u8],
+    room: &mut Room<'_>,
     calls: &[Call],
     answers: &mut [Answer],
 ) -> Result<(), Unready>
     ensures law { Resumes
         (images H.maps A.maps piles.now)
-        calls.now (lengths memory.old spare.old blank.old answers.old)
+        calls.now (lengths memory.old room.old.spare.now room.old.blank.now answers.old)
         strip.old strip.new memory.old memory.new answers.old answers.new result }
-    ensures spare { spare.new ≡ spare.old }
-    ensures blank { blank.new ≡ blank.old }
+    ensures spare { room.new.spare.now ≡ room.old.spare.now }
+    ensures blank { room.new.blank.now ≡ room.old.blank.now }
 {
-    let held = Lengths::of(memory, spare, blank, answers);
+    let held = Lengths::of(memory, room, answers);
     check(strip.rows(), held, calls)?;
-    make_all(piles, strip, memory, spare, blank, calls, answers);
+    make_all(piles, strip, memory, room, calls, answers);
     Ok(())
 }

@@ -37,9 +37,6 @@ module _ (piles : Piles) (p q : Place) (xs ys : List (List ℕ)) (count : length
 
 -- ---- what the answer says of the ledgers
 module _ (piles : Piles) (ok : BothLawful piles) (s t : State) where
-  pub by_count : (s.rows ≡ t.rows → ⊥) → SameRows piles s t false
-  by_count ne l k hs ht = ((λ z. absurd (true≢false (sym z))), (λ e. absurd (ne (hs.count ∙ ap length e ∙ sym ht.count))))
-
   pub by_bytes : (b : Bool) → s.rows ≡ t.rows → s.place ≡ t.place → Decides b (s.bytes ≡ t.bytes) → SameRows piles s t b
   by_bytes b count place d l k hs ht =
       let tell = bytes_tell_rows piles ok s t l k hs ht count place in

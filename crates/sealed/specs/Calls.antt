@@ -21,10 +21,6 @@ call a m = record { memory = length m; act = a }
 abbrev pub at_place : Place → Strip → Strip
 at_place p s = record { rows = s.rows; place = p }
 
--- a row's plain block
-abbrev pub row_of : Piles → Strip → List ℕ → ℕ → List ℕ
-row_of piles s m k = plain_row piles s.place (cells s.rows.count m) k
-
 -- what is returned with an answer, and what an answer place then holds
 abbrev pub returned : Answer → Result (Unit {0}) StripFault
 returned (Ok x) = Ok tt

@@ -15,7 +15,6 @@ use Rattle.ledgers.specs.Machine.{cells_after, moved, restored}
 use Rattle.ledgers.specs.Stamps.{right_of}
 use Rattle.ledgers.specs.declared.call.Act.TheVariants.{Exchange}
 use Rattle.ledgers.specs.declared.call.Change.TheVariants.{Turn}
-use Rattle.sealed.specs.Calls.{row_of}
 use Rattle.sealed.specs.declared.strip.Strip.{Strip}
 use Rattle.sealed.specs.declared.ways.Way.{Way}
 use Rattle.sealed.specs.declared.ways.Way.TheVariants.{Fork, Back, Cross, Anew}

@@ -13,16 +13,18 @@ abbrev none : Call
 none = record { memory = 0; act = Write 0 [] }
 
 pub loop-i-init : goal.loop-i-init
-loop-i-init g c = (going_none _ _ _ _, refl, refl)
+loop-i-init g c = record { going = going_none _ _ _ _; spare = refl; blank = refl }
 
 pub hand-answer-requires : goal.hand-answer-requires
 hand-answer-requires g c =
     let b = begun _ _ _ c.requires in
-    let rows = c.loop-i.invariant.0.rows in
-    let now = All-get_or (λ x. served c.args.strip.now.rows.count (length c.args.spare.now) (length c.args.blank.now) x ≡ true) c.args.calls.now c.loop-i.i none c.loop-i-test.true b.room in
+    let rows = c.loop-i.invariant.going.rows in
+    let spare = c.args.room.now.spare.now in
+    let blank = c.args.room.now.blank.now in
+    let now = All-get_or (λ x. served c.args.strip.now.rows.count (length spare) (length blank) x ≡ true) c.args.calls.now c.loop-i.i none c.loop-i-test.true b.room in
     record {
       memory_fits = c.loop-i.auto.memory ∙ b.fit ∙ ap (λ n. 16 * n) (sym rows);
-      call_served = served_kept (get_or c.args.calls.now c.loop-i.i none) rows c.loop-i.auto.spare c.loop-i.auto.blank now;
+      call_served = served_kept (get_or c.args.calls.now c.loop-i.i none) rows (ap length c.loop-i.invariant.spare) (ap length c.loop-i.invariant.blank) now;
     }
 
 pub loop-i-preserved : goal.loop-i-preserved
@@ -30,11 +32,12 @@ loop-i-preserved g c =
     let b = begun _ _ _ c.requires in
     let calls = c.args.calls.now in
     let i = c.loop-i.i in
-    let place : i < length c.loop-i.answers = subst (λ n. i < n) (sym (c.loop-i.auto.answers ∙ b.each)) c.loop-i-test.true in (
-      going_more _ calls _ _ _ i c.loop-i.answers _ _ c.loop-i.invariant.0 c.loop-i-test.true place (get_or_default calls i _ _ c.loop-i-test.true) c.hand-answer.ensures.made,
-      c.hand-answer.ensures.spare ∙ c.loop-i.invariant.1,
-      c.hand-answer.ensures.blank ∙ c.loop-i.invariant.2,
-    )
+    let place : i < length c.loop-i.answers = subst (λ n. i < n) (sym (c.loop-i.auto.answers ∙ b.each)) c.loop-i-test.true in
+    record {
+      going = going_more _ calls _ _ _ i c.loop-i.answers _ _ c.loop-i.invariant.going c.loop-i-test.true place (get_or_default calls i _ _ c.loop-i-test.true) c.hand-answer.ensures.made;
+      spare = c.hand-answer.ensures.spare ∙ c.loop-i.invariant.spare;
+      blank = c.hand-answer.ensures.blank ∙ c.loop-i.invariant.blank;
+    }
 
 pub returns : goal.returns
 returns g c =
@@ -42,7 +45,7 @@ returns g c =
     let i = c.loop-i.i in
     let all : length c.loop-i.answers ≤ i = subst (λ n. n ≤ i) (sym (c.loop-i.auto.answers ∙ b.each)) c.loop-i-test.false in
     record {
-      ran = going_all _ _ _ _ i c.loop-i.answers c.loop-i.invariant.0 c.loop-i-test.false all;
-      spare = c.loop-i.invariant.1;
-      blank = c.loop-i.invariant.2;
+      ran = going_all _ _ _ _ i c.loop-i.answers c.loop-i.invariant.going c.loop-i-test.false all;
+      spare = c.loop-i.invariant.spare;
+      blank = c.loop-i.invariant.blank;
     }

@@ -7,5 +7,8 @@ use Rattle.replays.proofs.resuming.make_all.Given as goal
 abbrev pub invariant-loop-i : goal.invariant-loop-i
 invariant-loop-i g l =
     let piles = images g.H.Forkcipher.maps g.A.Forkcipher.maps l.piles in
-    Going piles l.calls (state l.initial.strip l.initial.memory) (state l.strip l.memory) l.i l.answers
-    × (l.spare ≡ l.initial.spare) × (l.blank ≡ l.initial.blank)
+    record {
+      going : Going piles l.calls (state l.initial.strip l.initial.memory) (state l.strip l.memory) l.i l.answers;
+      spare : l.room.spare.now ≡ l.initial.room.spare.now;
+      blank : l.room.blank.now ≡ l.initial.room.blank.now;
+    }
