@@ -8,13 +8,19 @@ use Rattle.ledgers.specs.Ledgers.{Answer, fits, lay_refusal, wrong_memory}
 use Rattle.ledgers.specs.declared.call.Act.{Act}
 use Rattle.ledgers.specs.declared.call.Act.TheVariants.{Write, Exchange, Convert, Read, Stamp}
 use Rattle.ledgers.specs.declared.call.Call.{Call}
+use Rattle.replays.specs.declared.making.Room.{Room}
 use Rattle.replays.specs.declared.ready.Lengths.{Lengths}
 use Rattle.replays.specs.declared.ready.Unready.{Unready}
 use Rattle.replays.specs.declared.ready.Unready.TheVariants.{Refused, Answers, NoRoom}
 
 -- the lengths of what is handed in
-abbrev pub lengths : (memory spare blank : List ℕ) → List Answer → Lengths
-lengths m s b x = record { memory = length m; spare = length s; blank = length b; answers = length x }
+abbrev pub lengths : (memory : List ℕ) → Room → List Answer → Lengths
+lengths m r x = record { memory = length m; spare = length r.spare.now; blank = length r.blank.now; answers = length x }
+
+-- what is at hand is afterwards what it was
+pub record Untouched (r r' : Room) : Type 0 where
+  pub spare : r'.spare.now ≡ r.spare.now
+  pub blank : r'.blank.now ≡ r.blank.now
 
 -- the length of the answer place that an act names; one without names none, and 16 bytes are always at hand
 abbrev pub place_named : Act → ℕ

@@ -6,7 +6,7 @@ ghost use Rattle.ledgers.specs.declared.call.Act.TheVariants.{Convert};
 ghost use Rattle.sealed.specs.Calls.{Does, Shows, call as handed, state};
 ghost use Rattle.sealed.specs.Piles.{images};
 ghost use Rattle.replays.specs.Asking.{asking};
-ghost use Rattle.replays.specs.Ready.{place_named, roomy, served};
+ghost use Rattle.replays.specs.Ready.{Untouched, place_named, roomy, served};
 
 use interfaces::Forkcipher;
 use ledgers::{Act, Answer, Call, Change};
@@ -139,8 +139,7 @@ pub(crate) fn hand<H: Forkcipher, A: Forkcipher>(
     ensures made { Made
         (images H.maps A.maps piles.now)
         call (state strip.old memory.old) (state strip.new memory.new) result }
-    ensures spare { room.new.spare.now ≡ room.old.spare.now }
-    ensures blank { room.new.blank.now ≡ room.old.blank.now }
+    ensures room { Untouched room.old room.new }
 {
     if call.memory == memory.len() {
         return perform(piles, strip, memory, room.blank, call.act);

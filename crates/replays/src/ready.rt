@@ -37,7 +37,7 @@ pub(crate) struct Lengths {
 
 impl Lengths {
     pub(crate) fn of(memory: &[u8], room: &Room<'_>, answers: &[Answer]) -> Lengths
-        ensures { result ≡ lengths memory.now room.now.spare.now room.now.blank.now answers.now }
+        ensures { result ≡ lengths memory.now room.now answers.now }
     {
         Lengths {
             memory: memory.len(),

@@ -1,7 +1,7 @@
 // A list of calls on a strip that is laid from a text.
 ghost use Rattle.std.specs.Prelude.{◌≡◌};
 ghost use Rattle.sealed.specs.Piles.{images};
-ghost use Rattle.replays.specs.Ready.{lengths};
+ghost use Rattle.replays.specs.Ready.{Untouched, lengths};
 ghost use Rattle.replays.specs.Replays.{Replays};
 
 use crate::making::Room;
@@ -23,10 +23,9 @@ pub fn replay<H: Forkcipher, A: Forkcipher>(
 ) -> Result<Strip, Unready>
     ensures law { Replays
         (images H.maps A.maps piles.now)
-        calls.now (lengths memory.old room.old.spare.now room.old.blank.now answers.old)
+        calls.now (lengths memory.old room.old answers.old)
         number text.now memory.old memory.new answers.old answers.new result }
-    ensures spare { room.new.spare.now ≡ room.old.spare.now }
-    ensures blank { room.new.blank.now ≡ room.old.blank.now }
+    ensures room { Untouched room.old room.new }
 {
     let held = Lengths::of(memory, room, answers);
     check_text(text.len(), held, calls)?;

@@ -3,7 +3,7 @@ ghost use Rattle.std.specs.Prelude.{◌≡◌, None};
 ghost use Rattle.ledgers.specs.Machine.{Ran};
 ghost use Rattle.sealed.specs.Calls.{state};
 ghost use Rattle.sealed.specs.Piles.{images};
-ghost use Rattle.replays.specs.Ready.{lengths, unready};
+ghost use Rattle.replays.specs.Ready.{Untouched, lengths, unready};
 ghost use Rattle.replays.specs.Replays.{Resumes};
 
 use crate::making::{Room, hand};
@@ -21,12 +21,11 @@ pub(crate) fn make_all<H: Forkcipher, A: Forkcipher>(
     calls: &[Call],
     answers: &mut [Answer],
 )
-    requires { unready strip.old.rows.count (lengths memory.old room.old.spare.now room.old.blank.now answers.old) calls.now ≡ None }
+    requires { unready strip.old.rows.count (lengths memory.old room.old answers.old) calls.now ≡ None }
     ensures ran { Ran
         (images H.maps A.maps piles.now)
         calls.now (state strip.old memory.old) (state strip.new memory.new) answers.new }
-    ensures spare { room.new.spare.now ≡ room.old.spare.now }
-    ensures blank { room.new.blank.now ≡ room.old.blank.now }
+    ensures room { Untouched room.old room.new }
 {
     for (i, call) in calls.iter().enumerate() {
         let answer = hand(piles, strip, memory, room, *call);
@@ -45,10 +44,9 @@ pub fn resume<H: Forkcipher, A: Forkcipher>(
 ) -> Result<(), Unready>
     ensures law { Resumes
         (images H.maps A.maps piles.now)
-        calls.now (lengths memory.old room.old.spare.now room.old.blank.now answers.old)
+        calls.now (lengths memory.old room.old answers.old)
         strip.old strip.new memory.old memory.new answers.old answers.new result }
-    ensures spare { room.new.spare.now ≡ room.old.spare.now }
-    ensures blank { room.new.blank.now ≡ room.old.blank.now }
+    ensures room { Untouched room.old room.new }
 {
     let held = Lengths::of(memory, room, answers);
     check(strip.rows(), held, calls)?;

@@ -19,6 +19,5 @@ returns g c =
         ap (λ h. unready_text (length c.args.text.now) h c.args.calls.now) (sym c.of-held.ensures) ∙ c.in_ok-check_text.ensures,
         subst (λ b. Follows piles c.args.calls.now b (state c.make_all.new.strip c.make_all.new.memory) c.make_all.new.answers l) laid.1 (ran_follows piles ok _ _ _ _ c.make_all.ensures.ran l (laid.2 piles)),
       );
-      spare = c.make_all.ensures.spare;
-      blank = c.make_all.ensures.blank;
+      room = c.make_all.ensures.room;
     }

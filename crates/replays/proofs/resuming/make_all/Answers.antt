@@ -13,7 +13,7 @@ abbrev none : Call
 none = record { memory = 0; act = Write 0 [] }
 
 pub loop-i-init : goal.loop-i-init
-loop-i-init g c = record { going = going_none _ _ _ _; spare = refl; blank = refl }
+loop-i-init g c = record { going = going_none _ _ _ _; room = record { spare = refl; blank = refl } }
 
 pub hand-answer-requires : goal.hand-answer-requires
 hand-answer-requires g c =
@@ -24,7 +24,7 @@ hand-answer-requires g c =
     let now = All-get_or (λ x. served c.args.strip.now.rows.count (length spare) (length blank) x ≡ true) c.args.calls.now c.loop-i.i none c.loop-i-test.true b.room in
     record {
       memory_fits = c.loop-i.auto.memory ∙ b.fit ∙ ap (λ n. 16 * n) (sym rows);
-      call_served = served_kept (get_or c.args.calls.now c.loop-i.i none) rows (ap length c.loop-i.invariant.spare) (ap length c.loop-i.invariant.blank) now;
+      call_served = served_kept (get_or c.args.calls.now c.loop-i.i none) rows (ap length c.loop-i.invariant.room.spare) (ap length c.loop-i.invariant.room.blank) now;
     }
 
 pub loop-i-preserved : goal.loop-i-preserved
@@ -35,8 +35,10 @@ loop-i-preserved g c =
     let place : i < length c.loop-i.answers = subst (λ n. i < n) (sym (c.loop-i.auto.answers ∙ b.each)) c.loop-i-test.true in
     record {
       going = going_more _ calls _ _ _ i c.loop-i.answers _ _ c.loop-i.invariant.going c.loop-i-test.true place (get_or_default calls i _ _ c.loop-i-test.true) c.hand-answer.ensures.made;
-      spare = c.hand-answer.ensures.spare ∙ c.loop-i.invariant.spare;
-      blank = c.hand-answer.ensures.blank ∙ c.loop-i.invariant.blank;
+      room = record {
+        spare = c.hand-answer.ensures.room.spare ∙ c.loop-i.invariant.room.spare;
+        blank = c.hand-answer.ensures.room.blank ∙ c.loop-i.invariant.room.blank;
+      };
     }
 
 pub returns : goal.returns
@@ -46,6 +48,5 @@ returns g c =
     let all : length c.loop-i.answers ≤ i = subst (λ n. n ≤ i) (sym (c.loop-i.auto.answers ∙ b.each)) c.loop-i-test.false in
     record {
       ran = going_all _ _ _ _ i c.loop-i.answers c.loop-i.invariant.going c.loop-i-test.false all;
-      spare = c.loop-i.invariant.spare;
-      blank = c.loop-i.invariant.blank;
+      room = c.loop-i.invariant.room;
     }

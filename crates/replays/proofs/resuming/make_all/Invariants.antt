@@ -1,7 +1,7 @@
-use Rattle.std.proofs.Common.{◌≡◌}
 use Rattle.ledgers.proofs.Lists.{Going}
 use Rattle.sealed.specs.Calls.{state}
 use Rattle.sealed.specs.Piles.{images}
+use Rattle.replays.specs.Ready.{Untouched}
 use Rattle.replays.proofs.resuming.make_all.Given as goal
 
 abbrev pub invariant-loop-i : goal.invariant-loop-i
@@ -9,6 +9,5 @@ invariant-loop-i g l =
     let piles = images g.H.Forkcipher.maps g.A.Forkcipher.maps l.piles in
     record {
       going : Going piles l.calls (state l.initial.strip l.initial.memory) (state l.strip l.memory) l.i l.answers;
-      spare : l.room.spare.now ≡ l.initial.room.spare.now;
-      blank : l.room.blank.now ≡ l.initial.room.blank.now;
+      room : Untouched l.initial.room l.room;
     }

@@ -9,10 +9,9 @@ use Rattle.replays.proofs.resuming.resume.Goals as goal
 pub returns : goal.returns
 returns g c =
     let ok = lawful g.met.H.Forkcipher.lawful g.met.A.Forkcipher.lawful c.args.piles.now in
-    let held = lengths c.args.memory.now c.args.room.now.spare.now c.args.room.now.blank.now c.args.answers.now in
+    let held = lengths c.args.memory.now c.args.room.now c.args.answers.now in
     let ready = ap₂ (λ n h. unready n.count h c.args.calls.now) (sym c.rows.ensures) (sym c.of-held.ensures) ∙ c.in_ok-check.ensures in
     record {
       law = (ready, strips_stand _ ok _ (begun _ held c.args.calls.now ready).fit (λ k. search rules), ran_follows _ ok _ _ _ _ c.make_all.ensures.ran);
-      spare = c.make_all.ensures.spare;
-      blank = c.make_all.ensures.blank;
+      room = c.make_all.ensures.room;
     }
