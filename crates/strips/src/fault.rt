@@ -1,6 +1,9 @@
 // Why a strip's call is refused.
-ghost use Rattle.std.specs.Prelude.{◌≡◌};
-ghost use Rattle.strips.specs.Faults.{told};
+ghost use Rattle.std.specs.Prelude.{◌≡◌, Some};
+ghost use Rattle.strips.specs.Faults.{told, fault_text};
+
+use std::error::Error;
+use std::fmt;
 
 #[derive(Clone, Copy, PartialEq, Eq, Debug)]
 pub enum StripFault {
@@ -36,3 +39,18 @@ impl StripFault {
         }
     }
 }
+
+impl fmt::Display for StripFault {
+    ghost output = { λ f. Some (fault_text f) };
+
+    fn fmt<W: fmt::Write>(&self, f: &mut fmt::Formatter<W>) -> fmt::Result {
+        match *self {
+            StripFault::LongText => f.write_str("a text of over 65,536 bytes"),
+            StripFault::WrongMemory => f.write_str("memory that is not 16 bytes for each row"),
+            StripFault::NoSuchRow(row) => write!(f, "no row {row}"),
+            StripFault::WrongAnswerPlace => f.write_str("an answer place that is not 16 bytes"),
+        }
+    }
+}
+
+impl Error for StripFault {}

@@ -3,9 +3,13 @@
 #![tactic(auto)]
 
 mod fault;
+mod pile;
 mod place;
 mod rows;
+mod station;
+mod unknown;
 
 pub use fault::StripFault;
 pub use place::{Pile, Place, Station};
 pub use rows::RowCount;
+pub use unknown::UnknownNumber;
