@@ -11,7 +11,7 @@ use interfaces::Forkcipher;
 use ledgers::{Answer, Call};
 use piles::{away_pile, home_pile};
 use printing::{show_answers, show_end, show_lay, show_step};
-use replays::{replay, resume};
+use replays::{Room, replay, resume};
 use sealed::{Piles, Strip};
 use std::io;
 
@@ -46,11 +46,11 @@ fn at_once<H: Forkcipher, A: Forkcipher>(
     memory: &mut [u8],
     answers: &mut [Answer],
 ) -> io::Result<()> {
-    let mut spare = [0; SPARE];
-    let mut blank = [0; BLANK];
-    match replay(
-        piles, NUMBER, &TEXT, memory, &mut spare, &mut blank, &CALLS, answers,
-    ) {
+    let mut room = Room {
+        spare: &mut [0; SPARE],
+        blank: &mut [0; BLANK],
+    };
+    match replay(piles, NUMBER, &TEXT, memory, &mut room, &CALLS, answers) {
         Ok(strip) => {
             show_answers(rt, answers)?;
             show_end(rt, strip, memory)
@@ -67,19 +67,13 @@ fn one_step<H: Forkcipher, A: Forkcipher>(
     call: Call,
     answer: Answer,
 ) -> bool {
-    let mut spare = [0; SPARE];
-    let mut blank = [0; BLANK];
+    let mut room = Room {
+        spare: &mut [0; SPARE],
+        blank: &mut [0; BLANK],
+    };
     let mut answers = [Ok(None)];
-    resume(
-        piles,
-        strip,
-        memory,
-        &mut spare,
-        &mut blank,
-        &[call],
-        &mut answers,
-    )
-    .is_ok_and(|()| answers[0] == answer)
+    resume(piles, strip, memory, &mut room, &[call], &mut answers).is_ok_and(|()| answers[0]
+        == answer)
 }
 
 // The strip after each call, and where an answer is not the one of the replay.

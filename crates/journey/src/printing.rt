@@ -2,22 +2,7 @@
 use ledgers::Answer;
 use sealed::Strip;
 use std::{fmt, io};
-use strips::{Pile, Place, Station, StripFault};
-
-fn station_word(station: Station) -> &'static str {
-    match station {
-        Station::Plain => "plain",
-        Station::Left => "left",
-        Station::Right => "right",
-    }
-}
-
-fn pile_word(pile: Pile) -> &'static str {
-    match pile {
-        Pile::Home => "home",
-        Pile::Away => "away",
-    }
-}
+use strips::{Place, StripFault};
 
 // A place as it is printed.
 #[derive(Clone, Copy)]
@@ -26,9 +11,7 @@ struct Where(Place);
 impl fmt::Display for Where {
     fn fmt<W: fmt::Write>(&self, f: &mut fmt::Formatter<W>) -> fmt::Result {
         let Where(place) = *self;
-        let station = station_word(place.station);
-        let pile = pile_word(place.pile);
-        write!(f, "{station} {pile} {}", place.number)
+        write!(f, "{} {} {}", place.station, place.pile, place.number)
     }
 }
 
