@@ -44,7 +44,8 @@ fn convert<H: Forkcipher, A: Forkcipher>(
     }
 }
 
-// What a strip is asked: a row, or its stamp.
+// What a strip is asked: a row, or its stamp. With a closure in its place `answer` would have to ask of it, clause by
+// clause, what `Shows` says of both in one word.
 #[derive(Clone, Copy)]
 enum Question {
     Row(usize),

@@ -11,7 +11,9 @@ use interfaces::Forkcipher;
 use ledgers::{Answer, Call};
 use sealed::{Piles, Strip};
 
-// Lays a strip from a text and makes the calls on it. Spare memory and blank answer place are as they were.
+// Lays a strip from a text and makes the calls on it. What is at hand in the room stays. Each answer goes into the caller's
+// slice beside the calls: a list of both would have to be made, and there is no heap. It does not go by `resume`, since all
+// is checked before the text is put into the memory.
 pub fn replay<H: Forkcipher, A: Forkcipher>(
     piles: &Piles<'_, H, A>,
     number: u16,

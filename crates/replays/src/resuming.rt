@@ -27,13 +27,14 @@ pub(crate) fn make_all<H: Forkcipher, A: Forkcipher>(
         calls.now (state strip.old memory.old) (state strip.new memory.new) answers.new }
     ensures room { Untouched room.old room.new }
 {
+    // The answers by index: tried as `zip` with `iter_mut`, and the proof did not close.
     for (i, call) in calls.iter().enumerate() {
         let answer = hand(piles, strip, memory, room, *call);
         answers[i] = answer;
     }
 }
 
-// Makes the calls on a strip. Spare memory and blank answer place are as they were.
+// Makes the calls on a strip. What is at hand in the room stays.
 pub fn resume<H: Forkcipher, A: Forkcipher>(
     piles: &Piles<'_, H, A>,
     strip: &mut Strip,

@@ -37,6 +37,11 @@ leads (Back s) p = changed (Turn Plain) p
 leads (Cross s) p = changed (Turn (on (other s))) p
 leads (Anew to) p = to
 
+-- a way that serves a turn from a place
+pub record Serves (p : Place) (wanted : Station) (way : Way) : Type 0 where
+  pub starts : Starts way p.station
+  pub there : leads way p ≡ changed (Turn wanted) p
+
 -- a strip's bytes with one row stored at another place, and with all rows
 abbrev pub row_moved : Piles → Strip → Place → ℕ → List ℕ → List ℕ
 row_moved piles s to k m = let cs = cells s.rows.count m in concat (slice_set cs k (restored piles s.place to k (slice_index_or cs k [])))

@@ -40,6 +40,8 @@ impl Strip {
             (images H.maps A.maps piles.now)
             self.now (leads way self.now.place) memory.old }
     {
+        // By index: tried over `as_chunks_mut`, of which the library does not say what the slice ends as, so the proof
+        // did not close.
         for row in 0..self.rows.get() {
             self.lead_row(piles, memory, way, row);
         }

@@ -26,7 +26,8 @@ fn header_block(rows: RowCount) -> [u8; 16]
 }
 
 impl<H: Forkcipher, A: Forkcipher> Piles<'_, H, A> {
-    // Both images under a pile's cipher, left first.
+    // Both images under a pile's cipher, left first. `fork`, `back` and `cross` each match on the pile: home and away may
+    // be of two types, and the gate lets no function hand out the one that is meant as a `dyn`.
     pub(crate) fn fork(&self, pile: Pile, tweak: [u8; 8], block: [u8; 16]) -> ([u8; 16], [u8; 16])
         ensures left { result.0 ≡ (images H.maps A.maps self.now pile).image Left tweak block }
         ensures right { result.1 ≡ (images H.maps A.maps self.now pile).image Right tweak block }

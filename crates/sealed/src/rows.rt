@@ -38,7 +38,8 @@ impl Strip {
         self.split(memory)[row]
     }
 
-    // Stores a block in a row.
+    // Stores a block in a row. That memory fits is asked here and of what calls this: tried as a field of a struct that
+    // holds the memory, and the proof did not close, since what the memory ends as then had no name.
     pub(crate) fn set_row(&self, memory: &mut [u8], row: usize, block: [u8; 16])
         requires memory_fits { length memory.old ≡ 16 * self.now.rows.count }
         requires row_within { row < self.now.rows.count }

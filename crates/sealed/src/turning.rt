@@ -1,11 +1,10 @@
 // A strip goes to another station.
 ghost use Rattle.std.specs.Prelude.{◌≡◌, MatchOption};
-ghost use Rattle.ledgers.specs.Ledgers.{changed};
 ghost use Rattle.ledgers.specs.declared.call.Act.TheVariants.{Convert};
 ghost use Rattle.ledgers.specs.declared.call.Change.TheVariants.{Turn};
 ghost use Rattle.sealed.specs.Calls.{Does};
 ghost use Rattle.sealed.specs.Piles.{images};
-ghost use Rattle.sealed.specs.Serving.{Starts, leads};
+ghost use Rattle.sealed.specs.Serving.{Serves};
 
 use crate::ways::Way;
 use crate::{Piles, Strip};
@@ -15,8 +14,7 @@ use strips::{Station, StripFault};
 impl Strip {
     // The way to a station; none where the strip is there.
     fn way_to(&self, wanted: Station) -> Option<Way>
-        ensures { MatchOption result (self.now.place.station ≡ wanted)
-            (λ way. Starts way self.now.place.station × (leads way self.now.place ≡ changed (Turn wanted) self.now.place)) }
+        ensures { MatchOption result (self.now.place.station ≡ wanted) (Serves self.now.place wanted) }
     {
         match (self.place.station, wanted) {
             (Station::Plain, Station::Plain) => None,

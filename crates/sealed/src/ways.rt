@@ -9,6 +9,8 @@ use crate::tweaks::row_tweak;
 use interfaces::{Forkcipher, Side};
 use strips::Place;
 
+// An enum and no closure: `Way::Cross(Side::Left)` is plainer than a closure over piles, pile, number and side, and where
+// it starts and leads to are two definitions.
 #[derive(Clone, Copy)]
 pub(crate) enum Way {
     // To another station, by one call of the pile's cipher.
