@@ -46,12 +46,19 @@ pub record Shows (piles : Piles) (a : Act) (s : Strip) (m x x' : List ℕ) (r : 
   pub result : r ≡ returned (step_answer piles (call a m) (state s m))
   pub place : x' ≡ held (step_answer piles (call a m) (state s m)) x
 
--- lay: refused as the table says, with the memory as it was; else the strip and the memory that are laid from the text,
--- and under any two piles they stand for the text's ledger
+-- lay: the strip and the memory are those that are laid from the text, and under any two piles they stand for its ledger
+pub record Laid (number : ℕ) (text m m' : List ℕ) (s : Strip) : Type 0 where
+  pub passed : lay_refusal (length text) (length m) ≡ None
+  pub is : state s m' ≡ laid number text
+  pub stands : (piles : Piles) → StandsFor piles (state s m') (ledger_lay number text)
+
+-- or it is refused as the table says, with the memory as it was
+pub record LayRefused (text m m' : List ℕ) (f : StripFault) : Type 0 where
+  pub fault : lay_refusal (length text) (length m) ≡ Some f
+  pub memory : m' ≡ m
+
 abbrev pub Lays : ℕ → List ℕ → List ℕ → List ℕ → Result Strip StripFault → Type 0
-Lays number text m m' (Ok s) =
-    (lay_refusal (length text) (length m) ≡ None) × (state s m' ≡ laid number text) × ((piles : Piles) → StandsFor piles (state s m') (ledger_lay number text))
-Lays number text m m' (Err f) = (lay_refusal (length text) (length m) ≡ Some f) × (m' ≡ m)
+Lays number text m m' r = MatchResult r (Laid number text m m') (LayRefused text m m')
 
 -- two strips are compared: refused where either memory does not fit its strip, and else true exactly where the ledgers
 -- that they stand for have the same rows
@@ -61,6 +68,9 @@ SameRows piles s t b = (l k : Ledger) → StandsFor piles s l → StandsFor pile
 abbrev pub compare_refusal : (s t : Strip) (m n : List ℕ) → Option StripFault
 compare_refusal s t m n = first (wrong_memory s.rows.count (length m)) (wrong_memory t.rows.count (length n))
 
+pub record Compared (piles : Piles) (s t : Strip) (m n : List ℕ) (b : Bool) : Type 0 where
+  pub passed : compare_refusal s t m n ≡ None
+  pub same : SameRows piles (state s m) (state t n) b
+
 abbrev pub Compares : Piles → (s t : Strip) (m n : List ℕ) → Result Bool StripFault → Type 0
-Compares piles s t m n (Ok b) = (compare_refusal s t m n ≡ None) × SameRows piles (state s m) (state t n) b
-Compares piles s t m n (Err f) = compare_refusal s t m n ≡ Some f
+Compares piles s t m n r = MatchResult r (Compared piles s t m n) (λ f. compare_refusal s t m n ≡ Some f)

@@ -15,9 +15,9 @@ returns g c =
     let l = ledger_lay c.args.number c.args.text.now in
     let laid = c.in_ok-strip.ensures in
     record {
-      law = (
-        ap (λ h. unready_text (length c.args.text.now) h c.args.calls.now) (sym c.of-held.ensures) ∙ c.in_ok-check_text.ensures,
-        subst (λ b. Follows piles c.args.calls.now b (state c.make_all.new.strip c.make_all.new.memory) c.make_all.new.answers l) laid.1 (ran_follows piles ok _ _ _ _ c.make_all.ensures.ran l (laid.2 piles)),
-      );
+      law = record {
+        ready = ap (λ h. unready_text (length c.args.text.now) h c.args.calls.now) (sym c.of-held.ensures) ∙ c.in_ok-check_text.ensures;
+        follows = subst (λ b. Follows piles c.args.calls.now b (state c.make_all.new.strip c.make_all.new.memory) c.make_all.new.answers l) laid.is (ran_follows piles ok _ _ _ _ c.make_all.ensures.ran l (laid.stands piles));
+      };
       room = c.make_all.ensures.room;
     }

@@ -12,6 +12,10 @@ returns g c =
     let held = lengths c.args.memory.now c.args.room.now c.args.answers.now in
     let ready = ap₂ (λ n h. unready n.count h c.args.calls.now) (sym c.rows.ensures) (sym c.of-held.ensures) ∙ c.in_ok-check.ensures in
     record {
-      law = (ready, strips_stand _ ok _ (begun _ held c.args.calls.now ready).fit (λ k. search rules), ran_follows _ ok _ _ _ _ c.make_all.ensures.ran);
+      law = record {
+        ready = ready;
+        stood = strips_stand _ ok _ (begun _ held c.args.calls.now ready).fit (λ k. search rules);
+        follows = ran_follows _ ok _ _ _ _ c.make_all.ensures.ran;
+      };
       room = c.make_all.ensures.room;
     }
