@@ -14,7 +14,7 @@ use Rattle.ledgers.specs.Rows.{Piles, IsBlock, Small, both, tweak, at_station, s
 use Rattle.std.specs.List.{concat}
 use Rattle.ledgers.specs.Stamps.{header}
 use Rattle.ledgers.specs.Ledgers.{Ledger}
-use Rattle.ledgers.specs.Machine.{State, plain_row, restored, moved}
+use Rattle.ledgers.specs.Machine.{State, restored, moved}
 use Rattle.ledgers.specs.Laws.{BothLawful, StandsFor, ledger_of}
 use Rattle.interfaces.proofs.Numbers.{big_endian_bytes}
 use Rattle.ledgers.proofs.Cells.{Sized, length-concat, cells-concat, length-cells, concat-cells, get_or-cells, length-each_row, get_or-each_row, all_each_row, each_row_twice, each_row_same}

@@ -1,8 +1,7 @@
 -- Two strips are compared.
 -- Assumes nothing.
-use Rattle.std.proofs.Common.{◌≡◌, ℕ, ◌<◌, Bool, false, List, [], length, get_or, Decides, sym, ap, ◌∙◌, subst, zero-add}
+use Rattle.std.proofs.Common.{◌≡◌, ℕ, ◌<◌, Bool, List, [], length, get_or, Decides, sym, ap, ◌∙◌, subst, zero-add}
 use Rattle.std.proofs.lemmas.List.{ext_get_or, get_or_default}
-use Rattle.std.proofs.lemmas.Bool.{true≢false}
 use Rattle.strips.specs.declared.place.Place.{Place}
 use Rattle.ledgers.specs.Rows.{Piles, plain}
 use Rattle.ledgers.specs.Machine.{State}

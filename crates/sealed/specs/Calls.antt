@@ -3,9 +3,9 @@
 use Rattle.std.specs.Prelude.{◌≡◌, ℕ, Bool, List, length, Some, None, Ok, Err, Decides, MatchResult, Option, Result}
 use Rattle.strips.specs.declared.place.Place.{Place}
 use Rattle.strips.specs.declared.fault.StripFault.{StripFault}
-use Rattle.ledgers.specs.Rows.{Piles, cells}
+use Rattle.ledgers.specs.Rows.{Piles}
 use Rattle.ledgers.specs.Ledgers.{Answer, Ledger, first, ledger_lay, lay_refusal, wrong_memory}
-use Rattle.ledgers.specs.Machine.{State, laid, plain_row, step, step_answer}
+use Rattle.ledgers.specs.Machine.{State, laid, step, step_answer}
 use Rattle.ledgers.specs.Laws.{StandsFor}
 use Rattle.ledgers.specs.declared.call.Act.{Act}
 use Rattle.ledgers.specs.declared.call.Call.{Call}

@@ -1,4 +1,3 @@
-use Rattle.std.proofs.Common.{rules}
 use Rattle.ledgers.proofs.Tells.{bytes_tell_rows}
 use Rattle.sealed.proofs.Lawful.{lawful}
 use Rattle.sealed.proofs.strip.Strip.same_rows.Goals as goal
