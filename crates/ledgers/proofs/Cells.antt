@@ -2,8 +2,8 @@
 use Rattle.std.proofs.Common.{◌≡◌, ℕ, zero, suc, ◌+◌, ◌*◌, ◌<◌, ◌≤◌, ◌≢◌, List, [], ◌∷◌, ◌++◌, length, get_or, take, drop, set, sym, refl, ap, ◌∙◌, subst, ap₂, le_of_suc-le-suc, not-suc-le-zero, add-zero, add-suc, suc-add, zero-add, arith, take-add, below_more, All}
 use Rattle.std.proofs.lemmas.List.{take_at, drop_at, length-append, drop-drop, length-drop, take-append-drop, nil_from_length, length-take-le, append_assoc, length-set, get_or-set_same, get_or-set_other, ext_get_or}
 use Rattle.std.proofs.lemmas.List.Elements.{All-cons, All-head, All-nil, All-set, All-tail}
-use Rattle.ledgers.specs.Rows.{each_row, cells}
 use Rattle.std.specs.List.{concat}
+use Rattle.ledgers.specs.Rows.{each_row, cells}
 
 -- a block's length is all that matters here
 abbrev pub Sized : List ℕ → Type 0

@@ -2,6 +2,7 @@
 use Rattle.std.proofs.Common.{◌≡◌, ℕ, zero, suc, ◌+◌, ◌*◌, ◌^◌, ◌<◌, List, [], ◌∷◌, ◌++◌, length, get_or, take, drop, replicate, sym, refl, ap, ◌∙◌, subst, zero-add, arith, lit<, All}
 use Rattle.std.proofs.lemmas.List.{ext_get_or, get_or-drop, length-drop, length-take-le}
 use Rattle.std.proofs.lemmas.List.Elements.{All-cons, All-get_or, All-nil}
+use Rattle.std.specs.List.{concat}
 use Rattle.aes.specs.Block.{Bytes}
 use Rattle.interfaces.specs.Numbers.{big_endian}
 use Rattle.interfaces.specs.Maps.{Lawful, Maps}
@@ -11,7 +12,6 @@ use Rattle.strips.specs.declared.place.Place.{Place}
 use Rattle.strips.specs.declared.place.Station.{Station}
 use Rattle.strips.specs.declared.place.Station.TheVariants.{Plain, Left, Right}
 use Rattle.ledgers.specs.Rows.{Piles, IsBlock, Small, both, tweak, at_station, stored, plain, each_row, cells, sealed, opened}
-use Rattle.std.specs.List.{concat}
 use Rattle.ledgers.specs.Stamps.{header}
 use Rattle.ledgers.specs.Ledgers.{Ledger}
 use Rattle.ledgers.specs.Machine.{State, restored, moved}

@@ -4,6 +4,7 @@ use Rattle.std.proofs.lemmas.List.{length-set}
 use Rattle.std.proofs.lemmas.Bool.{ltb-true, ne_eqb, eqb-true}
 use Rattle.std.proofs.lemmas.List.Elements.{All-get_or, All-head, All-set, All-tail}
 use Rattle.std.proofs.lemmas.Option.{none-some}
+use Rattle.std.specs.List.{concat}
 use Rattle.strips.specs.declared.place.Place.{Place}
 use Rattle.strips.specs.declared.fault.StripFault.{StripFault}
 use Rattle.strips.specs.declared.fault.StripFault.TheVariants.{WrongMemory, NoSuchRow}
@@ -11,7 +12,6 @@ use Rattle.ledgers.specs.declared.call.Call.{Call}
 use Rattle.ledgers.specs.declared.call.Act.{Act}
 use Rattle.ledgers.specs.declared.call.Act.TheVariants.{Write, Exchange, Convert, Read, Stamp}
 use Rattle.ledgers.specs.Rows.{Piles, IsBlock, stored, plain, each_row, cells, sealed}
-use Rattle.std.specs.List.{concat}
 use Rattle.ledgers.specs.Stamps.{stamp}
 use Rattle.ledgers.specs.Ledgers.{Ledger, shown, unless, first, no_row, wrong_memory, act_refusal, fits, refusal, changed, accepted, answer_of, kept_or, refused_or, ledger_step, ledger_answer, ledger_run, ledger_answers}
 use Rattle.ledgers.specs.Machine.{State, SoundAct, Sound, plain_row, place_after, cells_after, carried, reply, step, step_answer, run, run_answers}

@@ -1,9 +1,9 @@
 -- A strip with its bytes, and what the calls make of them: stored rows, where the ledger has plain ones.
 -- Assumes nothing. The laws over it are in Laws.
 use Rattle.std.specs.Prelude.{◌≡◌, ℕ, List, [], ◌∷◌, slice_index_or, slice_set, All}
+use Rattle.std.specs.List.{concat}
 use Rattle.strips.specs.declared.place.Place.{Place}
 use Rattle.ledgers.specs.Rows.{Piles, IsBlock, stored, plain, each_row, cells, opened}
-use Rattle.std.specs.List.{concat}
 use Rattle.ledgers.specs.Stamps.{stamp}
 use Rattle.ledgers.specs.Ledgers.{Answer, done, shown, count_of, filled, ledger_lay, refusal, changed, kept_or, refused_or}
 use Rattle.ledgers.specs.declared.call.Act.{Act}

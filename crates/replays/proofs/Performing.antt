@@ -2,9 +2,9 @@
 -- Assumes nothing.
 use Rattle.std.proofs.Common.{◌≡◌, ℕ, ◌-◌, ◌*◌, ◌≤◌, List, ◌++◌, length, take, drop, Some, None, Option, sym, refl, ap, ◌∙◌, arith}
 use Rattle.std.proofs.lemmas.List.{length-take-le, take-append-drop}
+use Rattle.std.specs.List.{concat}
 use Rattle.strips.specs.declared.fault.StripFault.{StripFault}
 use Rattle.ledgers.specs.Rows.{Piles, cells}
-use Rattle.std.specs.List.{concat}
 use Rattle.ledgers.specs.Ledgers.{Answer, kept_or, refusal}
 use Rattle.ledgers.specs.Machine.{Made, SoundAct, State, carried, cells_after, place_after, step, step_answer}
 use Rattle.ledgers.specs.declared.call.Act.{Act}

@@ -38,9 +38,12 @@ roomy blank len = len == 16 || nat_le len blank
 abbrev pub served : (n spare blank : ℕ) → Call → Bool
 served n spare blank c = (fits n c.memory || nat_le c.memory spare) && roomy blank (place_named c.act)
 
--- the first call that is not served
+-- the first call that is not served, and that there is no room for it
 abbrev pub first_unserved : (n spare blank : ℕ) → List Call → Option ℕ
 first_unserved n spare blank calls = position_from (λ c. not (served n spare blank c)) 0 calls
+
+abbrev pub no_room : (n spare blank : ℕ) → List Call → Option Unready
+no_room n spare blank calls = option_map NoRoom (first_unserved n spare blank calls)
 
 -- a refusal of the strip's own, and else what follows
 abbrev pub after : Option StripFault → Option Unready → Option Unready
@@ -49,7 +52,7 @@ after (Some f) o = Some (Refused f)
 
 -- by the lengths of the strip's memory, the spare, the blank and the answers
 abbrev pub unserved : (n : ℕ) → Lengths → List Call → Option Unready
-unserved n h calls = cond (h.answers == length calls) (option_map NoRoom (first_unserved n h.spare h.blank calls)) (Some Answers)
+unserved n h calls = cond (h.answers == length calls) (no_room n h.spare h.blank calls) (Some Answers)
 
 -- a list on a strip of n rows, and one on a text of len bytes
 abbrev pub unready : (n : ℕ) → Lengths → List Call → Option Unready

@@ -145,6 +145,11 @@ pub(crate) fn hand<H: Forkcipher, A: Forkcipher>(
     if call.memory == memory.len() {
         return perform(piles, strip, memory, room.blank, call.act);
     }
-    let n = call.memory;
-    perform(piles, strip, &mut room.spare[0..n], room.blank, call.act)
+    perform(
+        piles,
+        strip,
+        &mut room.spare[0..call.memory],
+        room.blank,
+        call.act,
+    )
 }

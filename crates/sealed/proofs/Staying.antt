@@ -1,8 +1,8 @@
 -- A strip that goes where it is already.
 use Rattle.std.proofs.Common.{◌≡◌, ℕ, ◌*◌, List, length, None, Ok, sym, ap, ◌∙◌}
 use Rattle.std.proofs.lemmas.Bool.{eq-eqb}
-use Rattle.ledgers.specs.Rows.{Piles, Small, cells}
 use Rattle.std.specs.List.{concat}
+use Rattle.ledgers.specs.Rows.{Piles, Small, cells}
 use Rattle.ledgers.specs.Ledgers.{changed, done, first, kept_or, refusal, refused_or, unless}
 use Rattle.ledgers.specs.Machine.{State, carried, moved}
 use Rattle.ledgers.specs.Laws.{BothLawful}

@@ -1,6 +1,7 @@
 -- What the private functions do with rows: the parts of what the calls promise.
 -- Assumes nothing.
 use Rattle.std.specs.Prelude.{◌≡◌, ℕ, List, [], slice_index_or, slice_set}
+use Rattle.std.specs.List.{concat}
 use Rattle.aes.specs.Block.{xored}
 use Rattle.interfaces.specs.declared.sides.Side.{Side}
 use Rattle.interfaces.specs.declared.sides.Side.TheVariants as side
@@ -9,7 +10,6 @@ use Rattle.strips.specs.declared.place.Place.{Place}
 use Rattle.strips.specs.declared.place.Station.{Station}
 use Rattle.strips.specs.declared.place.Station.TheVariants.{Plain, Left, Right}
 use Rattle.ledgers.specs.Rows.{Piles, cells, each_row, plain, stored}
-use Rattle.std.specs.List.{concat}
 use Rattle.ledgers.specs.Ledgers.{changed}
 use Rattle.ledgers.specs.Machine.{cells_after, moved, restored}
 use Rattle.ledgers.specs.Stamps.{right_of}
