@@ -11,8 +11,8 @@ use interfaces::Forkcipher;
 use ledgers::{Answer, Call};
 use piles::{away_pile, home_pile};
 use printing::{show_answers, show_end, show_lay, show_step};
-use replays::{replay, resume};
-use sealed::Strip;
+use replays::{Room, replay, resume};
+use sealed::{Piles, Strip};
 use std::io;
 
 const NUMBER: u16 = 7;
@@ -42,16 +42,15 @@ fn lays(rt: &HostRuntime) -> io::Result<()> {
 // All calls by one replay: the answers, and how the strip ends.
 fn at_once<H: Forkcipher, A: Forkcipher>(
     rt: &HostRuntime,
-    home: &H,
-    away: &A,
+    piles: &Piles<'_, H, A>,
     memory: &mut [u8],
     answers: &mut [Answer],
 ) -> io::Result<()> {
-    let mut spare = [0; SPARE];
-    let mut blank = [0; BLANK];
-    match replay(
-        home, away, NUMBER, &TEXT, memory, &mut spare, &mut blank, &CALLS, answers,
-    ) {
+    let mut room = Room {
+        spare: &mut [0; SPARE],
+        blank: &mut [0; BLANK],
+    };
+    match replay(piles, NUMBER, &TEXT, memory, &mut room, &CALLS, answers) {
         Ok(strip) => {
             show_answers(rt, answers)?;
             show_end(rt, strip, memory)
@@ -60,54 +59,34 @@ fn at_once<H: Forkcipher, A: Forkcipher>(
     }
 }
 
-fn agree(found: Answer, expected: Answer) -> bool {
-    match (found, expected) {
-        (Answer::Done, Answer::Done) => true,
-        (Answer::Shown(x), Answer::Shown(y)) => x == y,
-        (Answer::Refused(x), Answer::Refused(y)) => x == y,
-        _ => false,
-    }
-}
-
 // One call. Is this the answer?
 fn one_step<H: Forkcipher, A: Forkcipher>(
-    home: &H,
-    away: &A,
+    piles: &Piles<'_, H, A>,
     strip: &mut Strip,
     memory: &mut [u8],
     call: Call,
     answer: Answer,
 ) -> bool {
-    let mut spare = [0; SPARE];
-    let mut blank = [0; BLANK];
-    let mut answers = [Answer::Done];
-    match resume(
-        home,
-        away,
-        strip,
-        memory,
-        &mut spare,
-        &mut blank,
-        &[call],
-        &mut answers,
-    ) {
-        Ok(()) => agree(answers[0], answer),
-        Err(_) => false,
-    }
+    let mut room = Room {
+        spare: &mut [0; SPARE],
+        blank: &mut [0; BLANK],
+    };
+    let mut answers = [Ok(None)];
+    resume(piles, strip, memory, &mut room, &[call], &mut answers).is_ok_and(|()| answers[0]
+        == answer)
 }
 
 // The strip after each call, and where an answer is not the one of the replay.
 fn steps<H: Forkcipher, A: Forkcipher>(
     rt: &HostRuntime,
-    home: &H,
-    away: &A,
+    piles: &Piles<'_, H, A>,
     mut strip: Strip,
     memory: &mut [u8],
     calls: &[Call],
     answers: &[Answer],
 ) -> io::Result<()> {
-    for i in 0..calls.len().min(answers.len()) {
-        if !one_step(home, away, &mut strip, memory, calls[i], answers[i]) {
+    for (i, (call, answer)) in calls.iter().zip(answers).enumerate() {
+        if !one_step(piles, &mut strip, memory, *call, *answer) {
             println!(rt; "another answer")?;
         }
         show_step(rt, i + 1, strip, memory)?;
@@ -118,27 +97,33 @@ fn steps<H: Forkcipher, A: Forkcipher>(
 // The calls one by one.
 fn step_by_step<H: Forkcipher, A: Forkcipher>(
     rt: &HostRuntime,
-    home: &H,
-    away: &A,
+    piles: &Piles<'_, H, A>,
     memory: &mut [u8],
     answers: &[Answer],
 ) -> io::Result<()> {
     println!(rt; "step by step")?;
     match Strip::lay(NUMBER, &TEXT, memory) {
-        Ok(strip) => steps(rt, home, away, strip, memory, &CALLS, answers),
+        Ok(strip) => steps(rt, piles, strip, memory, &CALLS, answers),
         Err(_) => println!(rt; "not laid"),
     }
 }
 
 // The journey twice.
-fn walk<H: Forkcipher, A: Forkcipher>(rt: &HostRuntime, home: &H, away: &A) -> io::Result<()> {
+fn walk<H: Forkcipher, A: Forkcipher>(rt: &HostRuntime, piles: &Piles<'_, H, A>) -> io::Result<()> {
     let mut memory = [0; OWN];
-    let mut answers = [Answer::Done; COUNT];
-    at_once(rt, home, away, &mut memory, &mut answers)?;
-    step_by_step(rt, home, away, &mut memory, &answers)
+    let mut answers = [Ok(None); COUNT];
+    at_once(rt, piles, &mut memory, &mut answers)?;
+    step_by_step(rt, piles, &mut memory, &answers)
 }
 
 fn main(rt: HostRuntime) -> io::Result<()> {
     lays(&rt)?;
-    walk(&rt, &home_pile(), &away_pile())
+    let (home, away) = (home_pile(), away_pile());
+    walk(
+        &rt,
+        &Piles {
+            home: &home,
+            away: &away,
+        },
+    )
 }

@@ -2,22 +2,7 @@
 use ledgers::Answer;
 use sealed::Strip;
 use std::{fmt, io};
-use strips::{Pile, Place, Station, StripFault};
-
-fn station_word(station: Station) -> &'static str {
-    match station {
-        Station::Plain => "plain",
-        Station::Left => "left",
-        Station::Right => "right",
-    }
-}
-
-fn pile_word(pile: Pile) -> &'static str {
-    match pile {
-        Pile::Home => "home",
-        Pile::Away => "away",
-    }
-}
+use strips::{Place, StripFault};
 
 // A place as it is printed.
 #[derive(Clone, Copy)]
@@ -26,9 +11,7 @@ struct Where(Place);
 impl fmt::Display for Where {
     fn fmt<W: fmt::Write>(&self, f: &mut fmt::Formatter<W>) -> fmt::Result {
         let Where(place) = *self;
-        let station = station_word(place.station);
-        let pile = pile_word(place.pile);
-        write!(f, "{station} {pile} {}", place.number)
+        write!(f, "{} {} {}", place.station, place.pile, place.number)
     }
 }
 
@@ -39,24 +22,21 @@ struct Told(Answer);
 impl fmt::Display for Told {
     fn fmt<W: fmt::Write>(&self, f: &mut fmt::Formatter<W>) -> fmt::Result {
         match self.0 {
-            Answer::Done => write!(f, "done"),
-            Answer::Shown(block) => write!(f, "{:032x}", u128::from_be_bytes(block)),
-            Answer::Refused(fault) => write!(f, "fault {} row {}", fault.number(), fault.row()),
+            Ok(None) => write!(f, "done"),
+            Ok(Some(block)) => write!(f, "{:032x}", u128::from_be_bytes(block)),
+            Err(fault) => write!(f, "fault {} row {}", fault.number(), fault.row()),
         }
     }
 }
 
 pub(crate) fn show_lay(rt: &HostRuntime, laid: Result<Strip, StripFault>) -> io::Result<()> {
-    match laid {
-        Ok(_) => println!(rt; "lay done"),
-        Err(fault) => println!(rt; "lay {}", Told(Answer::Refused(fault))),
-    }
+    println!(rt; "lay {}", Told(laid.map(|_| None)))
 }
 
 pub(crate) fn show_answers(rt: &HostRuntime, answers: &[Answer]) -> io::Result<()> {
     println!(rt; "answers")?;
-    for i in 0..answers.len() {
-        println!(rt; "{} {}", i + 1, Told(answers[i]))?;
+    for (i, answer) in answers.iter().enumerate() {
+        println!(rt; "{} {}", i + 1, Told(*answer))?;
     }
     Ok(())
 }

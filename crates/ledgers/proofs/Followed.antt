@@ -1,11 +1,10 @@
 -- All the calls of a list are made: what the strip answered and where it ended is what the laws say.
 -- Assumes nothing.
-use Rattle.std.proofs.Common.{◌≡◌, ℕ, Bool, true, false, cond, List, [], ◌∷◌, length, sym, ap, ◌∙◌, subst}
-use Rattle.std.specs.List.{AllByRecursion}
+use Rattle.std.proofs.Common.{◌≡◌, ℕ, Bool, true, false, cond, List, [], ◌∷◌, length, sym, ap, ◌∙◌, subst, All}
+use Rattle.std.proofs.lemmas.List.Elements.{All-cons, All-head, All-tail}
 use Rattle.ledgers.specs.declared.call.Call.{Call}
-use Rattle.ledgers.specs.declared.call.Answer.{Answer}
 use Rattle.ledgers.specs.Rows.{Piles}
-use Rattle.ledgers.specs.Ledgers.{Ledger, fits, ledger_run, ledger_answers}
+use Rattle.ledgers.specs.Ledgers.{Answer, Ledger, fits, ledger_run, ledger_answers}
 use Rattle.ledgers.specs.Machine.{State, Ran, Sound, run, run_answers}
 use Rattle.ledgers.specs.Struck.{stays, struck, row_answers}
 use Rattle.ledgers.specs.Laws.{BothLawful, StandsFor, Follows}
@@ -13,17 +12,17 @@ use Rattle.ledgers.proofs.Steps.{state_of, stands_is, run_both, keeps_up}
 use Rattle.ledgers.proofs.Striking.{struck_right}
 use Rattle.ledgers.proofs.Untraced.{untraced}
 
-sound_struck : (n : ℕ) (cs : List Call) → AllByRecursion Sound cs → AllByRecursion Sound (struck n cs)
-sound_struck n [] h = tt
-sound_struck n (c ∷ cs) h = go (stays n (fits n c.memory) cs c.act) (sound_struck n cs h.1)
+sound_struck : (n : ℕ) (cs : List Call) → All Sound cs → All Sound (struck n cs)
+sound_struck n [] h = h
+sound_struck n (c ∷ cs) h = go (stays n (fits n c.memory) cs c.act) (sound_struck n cs (All-tail Sound c cs h))
   where
-    go : (b : Bool) → AllByRecursion Sound (struck n cs) → AllByRecursion Sound (cond b (c ∷ struck n cs) (struck n cs))
-    go true rest = (h.0, rest)
+    go : (b : Bool) → All Sound (struck n cs) → All Sound (cond b (c ∷ struck n cs) (struck n cs))
+    go true rest = All-cons Sound c _ (All-head Sound c cs h) rest
     go false rest = rest
 
 module _ (piles : Piles) (ok : BothLawful piles) where
   -- what the ledger says of struck lists, said of the strip and its bytes
-  module _ (cs : List Call) (sound : AllByRecursion Sound cs) (s : State) (l : Ledger) (h : StandsFor piles s l) where
+  module _ (cs : List Call) (sound : All Sound cs) (s : State) (l : Ledger) (h : StandsFor piles s l) where
     abbrev ds : List Call
     ds = struck s.rows cs
 

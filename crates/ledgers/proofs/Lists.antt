@@ -1,15 +1,12 @@
 -- A list of calls in progress. Assumes nothing.
-use Rattle.std.proofs.Common.{◌≡◌, ℕ, ◌+◌, ◌*◌, ◌<◌, ◌≤◌, List, [], ◌∷◌, ◌++◌, length, get_or, take, drop, set, Some, None, Option, sym, refl, ap, ◌∙◌, subst, ap₂}
+use Rattle.std.proofs.Common.{◌≡◌, ℕ, ◌+◌, ◌*◌, ◌<◌, ◌≤◌, List, [], ◌∷◌, ◌++◌, length, get_or, take, drop, set, Some, None, Option, sym, refl, ap, ◌∙◌, subst, ap₂, All}
 use Rattle.std.proofs.lemmas.List.{drop_more, take_more, take_more_set, append_assoc, append-nil, take_all, drop_all}
-use Rattle.std.proofs.ByRecursion.{All-push}
-use Rattle.std.specs.List.{AllByRecursion}
+use Rattle.std.proofs.lemmas.List.Elements.{All-nil, All-push}
 use Rattle.strips.specs.declared.fault.StripFault.{StripFault}
 use Rattle.strips.specs.declared.fault.StripFault.TheVariants.{WrongMemory}
 use Rattle.ledgers.specs.declared.call.Call.{Call}
-use Rattle.ledgers.specs.declared.call.Answer.{Answer}
-use Rattle.ledgers.specs.declared.call.Answer.TheVariants.{Refused}
 use Rattle.ledgers.specs.Rows.{Piles}
-use Rattle.ledgers.specs.Ledgers.{refusal, kept_or, refused_or}
+use Rattle.ledgers.specs.Ledgers.{Answer, refused, refusal, kept_or, refused_or}
 use Rattle.ledgers.specs.Machine.{State, Sound, Made, Ran, carried, reply, step, step_answer, run, run_answers}
 use Rattle.ledgers.proofs.Steps.{refusal_memory}
 
@@ -18,7 +15,7 @@ pub record Going (piles : Piles) (calls : List Call) (start now : State) (i : �
   pub rows : now.rows ≡ start.rows
   pub end : run piles (drop i calls) now ≡ run piles calls start
   pub answers : take i told ++ run_answers piles (drop i calls) now ≡ run_answers piles calls start
-  pub sound : AllByRecursion Sound (take i calls)
+  pub sound : All Sound (take i calls)
 
 module _ (piles : Piles) where
   pub step-rows : (c : Call) (s : State) → (step piles c s).rows ≡ s.rows
@@ -34,12 +31,12 @@ module _ (piles : Piles) where
       ap (λ r. kept_or r s (carried piles c.act s))
       (sym (refusal_memory s.rows c.memory c.act ne))
 
-  pub answer_misfit : (c : Call) (s : State) → (c.memory ≡ 16 * s.rows → ⊥) → step_answer piles c s ≡ Refused WrongMemory
+  pub answer_misfit : (c : Call) (s : State) → (c.memory ≡ 16 * s.rows → ⊥) → step_answer piles c s ≡ refused WrongMemory
   answer_misfit c s ne =
       ap (λ r. refused_or r (reply piles c.act s)) (sym (refusal_memory s.rows c.memory c.act ne))
 
   pub going_none : (calls : List Call) (start : State) (told : List Answer) → Going piles calls start start 0 told
-  going_none calls start told = record { rows = refl; end = refl; answers = refl; sound = tt }
+  going_none calls start told = record { rows = refl; end = refl; answers = refl; sound = All-nil Sound }
 
   pub going_more : (calls : List Call) (start now next : State) (i : ℕ) (told : List Answer) (c : Call) (a : Answer)
       → Going piles calls start now i told → i < length calls → i < length told → c ≡ get_or calls i c → Made piles c now next a
@@ -54,7 +51,7 @@ module _ (piles : Piles) where
             ∙ append_assoc (take i told) (step_answer piles c now ∷ []) _
             ∙ ap (λ more. take i told ++ more) (sym (ap (λ cs. run_answers piles cs now) left))
             ∙ g.answers;
-        sound = subst (AllByRecursion Sound) (sym (take_more calls i c lt ∙ ap (λ x. take i calls ++ (x ∷ [])) (sym is))) (All-push Sound (take i calls) c g.sound made.sound);
+        sound = subst (All Sound) (sym (take_more calls i c lt ∙ ap (λ x. take i calls ++ (x ∷ [])) (sym is))) (All-push Sound (take i calls) c g.sound made.sound);
       }
 
   -- all are done
@@ -64,5 +61,5 @@ module _ (piles : Piles) where
       record {
         end = sym (ap (λ cs. run piles cs now) none) ∙ g.end;
         answered = sym (append-nil told) ∙ ap₂ ◌++◌ (sym (take_all i told k)) (sym (ap (λ cs. run_answers piles cs now) none)) ∙ g.answers;
-        sound = subst (AllByRecursion Sound) (take_all i calls h) g.sound;
+        sound = subst (All Sound) (take_all i calls h) g.sound;
       }

@@ -1,8 +1,8 @@
 -- A place's piles under the law. Assumes nothing.
-use Rattle.std.proofs.Common.{◌≡◌, ℕ, zero, suc, ◌+◌, ◌*◌, ◌^◌, ◌<◌, List, [], ◌∷◌, ◌++◌, length, get_or, take, drop, replicate, sym, refl, ap, ◌∙◌, subst, zero-add, arith, lit<}
+use Rattle.std.proofs.Common.{◌≡◌, ℕ, zero, suc, ◌+◌, ◌*◌, ◌^◌, ◌<◌, List, [], ◌∷◌, ◌++◌, length, get_or, take, drop, replicate, sym, refl, ap, ◌∙◌, subst, zero-add, arith, lit<, All}
 use Rattle.std.proofs.lemmas.List.{ext_get_or, get_or-drop, length-drop, length-take-le}
-use Rattle.std.proofs.ByRecursion.{All-get_or}
-use Rattle.std.specs.List.{AllByRecursion}
+use Rattle.std.proofs.lemmas.List.Elements.{All-cons, All-get_or, All-nil}
+use Rattle.std.specs.List.{concat}
 use Rattle.aes.specs.Block.{Bytes}
 use Rattle.interfaces.specs.Numbers.{big_endian}
 use Rattle.interfaces.specs.Maps.{Lawful, Maps}
@@ -11,13 +11,13 @@ use Rattle.strips.specs.declared.place.Pile.TheVariants.{Home, Away}
 use Rattle.strips.specs.declared.place.Place.{Place}
 use Rattle.strips.specs.declared.place.Station.{Station}
 use Rattle.strips.specs.declared.place.Station.TheVariants.{Plain, Left, Right}
-use Rattle.ledgers.specs.Rows.{Piles, IsBlock, Small, both, tweak, at_station, stored, plain, each_row, flat, cells, sealed, opened}
+use Rattle.ledgers.specs.Rows.{Piles, IsBlock, Small, both, tweak, at_station, stored, plain, each_row, cells, sealed, opened}
 use Rattle.ledgers.specs.Stamps.{header}
 use Rattle.ledgers.specs.Ledgers.{Ledger}
-use Rattle.ledgers.specs.Machine.{State, plain_row, restored, moved}
+use Rattle.ledgers.specs.Machine.{State, restored, moved}
 use Rattle.ledgers.specs.Laws.{BothLawful, StandsFor, ledger_of}
 use Rattle.interfaces.proofs.Numbers.{big_endian_bytes}
-use Rattle.ledgers.proofs.Cells.{Sized, length-flat, cells-flat, length-cells, flat-cells, get_or-cells, length-each_row, get_or-each_row, all_each_row, each_row_twice, each_row_same}
+use Rattle.ledgers.proofs.Cells.{Sized, length-concat, cells-concat, length-cells, concat-cells, get_or-cells, length-each_row, get_or-each_row, all_each_row, each_row_twice, each_row_same}
 
 pub both_lawful : {h a : Maps} → Lawful h → Lawful a → BothLawful (both h a)
 both_lawful h a Home = h
@@ -25,15 +25,6 @@ both_lawful h a Away = a
 
 pub tweak_bytes : (u n r : ℕ) → Bytes 8 (tweak u n r)
 tweak_bytes u n r = big_endian_bytes 8 (u * 2 ^ 61 + n * 2 ^ 29 + r)
-
--- ---- the rows that stand in bytes
-module _ (piles : Piles) (p : Place) (n : ℕ) (bytes : List ℕ) where
-  pub length-opened : length (opened piles p n bytes) ≡ n
-  length-opened = length-each_row (plain piles p) 0 (cells n bytes) ∙ length-cells n bytes
-
-  pub get_or-opened : (i : ℕ) → i < n → plain_row piles p (cells n bytes) i ≡ get_or (opened piles p n bytes) i []
-  get_or-opened i lt =
-      sym (get_or-each_row (plain piles p) 0 (cells n bytes) i [] (subst (λ m. i < m) (sym (length-cells n bytes)) lt) ∙ ap (λ j. plain piles p j (get_or (cells n bytes) i [])) (zero-add i))
 
 -- ---- blocks
 -- zeros are bytes, also behind others
@@ -56,12 +47,11 @@ small_take (suc n) [] h k = h k
 small_take (suc n) (x ∷ xs) h zero = h 0
 small_take (suc n) (x ∷ xs) h (suc k) = small_take n xs (λ j. h (suc j)) k
 
-pub cell_blocks : (n : ℕ) (bytes : List ℕ) → length bytes ≡ 16 * n → Small bytes → AllByRecursion IsBlock (cells n bytes)
-cell_blocks zero bytes e h = tt
-cell_blocks (suc n) bytes e h = (
-  (length-take-le 16 bytes (omega arith), small_take 16 bytes h),
-  cell_blocks n (drop 16 bytes) (omega (arith, length-drop 16 bytes)) (small_drop 16 bytes h),
-)
+pub cell_blocks : (n : ℕ) (bytes : List ℕ) → length bytes ≡ 16 * n → Small bytes → All IsBlock (cells n bytes)
+cell_blocks zero bytes e h = All-nil IsBlock
+cell_blocks (suc n) bytes e h =
+    All-cons IsBlock _ _ (length-take-le 16 bytes (omega arith), small_take 16 bytes h)
+    (cell_blocks n (drop 16 bytes) (omega (arith, length-drop 16 bytes)) (small_drop 16 bytes h))
 
 pub header_block : (n : ℕ) → IsBlock (header n)
 header_block n = (refl, small_filled (big_endian 4 n) 12 (big_endian_bytes 4 n).1)
@@ -94,25 +84,25 @@ module _ (piles : Piles) (ok : BothLawful piles) where
   pub stored_back : (p : Place) (k : ℕ) (b : List ℕ) → IsBlock b → plain piles p k (stored piles p k b) ≡ b
   stored_back p k b hb = at_back (piles p.pile) (ok p.pile) _ b (tweak_bytes 0 p.number k) hb p.station
 
-  pub stored_sized : (p : Place) (rows : List (List ℕ)) → AllByRecursion IsBlock rows → AllByRecursion Sized (each_row (stored piles p) 0 rows)
+  pub stored_sized : (p : Place) (rows : List (List ℕ)) → All IsBlock rows → All Sized (each_row (stored piles p) 0 rows)
   stored_sized p rows h = all_each_row (stored piles p) IsBlock Sized (λ k b hb. (stored_block p k b hb).0) 0 rows h
 
-  pub cells-sealed : (p : Place) (rows : List (List ℕ)) → AllByRecursion IsBlock rows → cells (length rows) (sealed piles p rows) ≡ each_row (stored piles p) 0 rows
+  pub cells-sealed : (p : Place) (rows : List (List ℕ)) → All IsBlock rows → cells (length rows) (sealed piles p rows) ≡ each_row (stored piles p) 0 rows
   cells-sealed p rows h =
-      ap (λ n. cells n (sealed piles p rows)) (sym (length-each_row (stored piles p) 0 rows)) ∙ cells-flat _ (stored_sized p rows h)
+      ap (λ n. cells n (sealed piles p rows)) (sym (length-each_row (stored piles p) 0 rows)) ∙ cells-concat _ (stored_sized p rows h)
 
   -- the rows come out again
-  pub rows_back : (p : Place) (rows : List (List ℕ)) → AllByRecursion IsBlock rows → each_row (plain piles p) 0 (each_row (stored piles p) 0 rows) ≡ rows
+  pub rows_back : (p : Place) (rows : List (List ℕ)) → All IsBlock rows → each_row (plain piles p) 0 (each_row (stored piles p) 0 rows) ≡ rows
   rows_back p rows h = each_row_twice (stored piles p) (plain piles p) (λ _ b. b) IsBlock (stored_back p) 0 rows h ∙ each_row_same 0 rows
 
-  pub opened-sealed : (p : Place) (rows : List (List ℕ)) → AllByRecursion IsBlock rows → opened piles p (length rows) (sealed piles p rows) ≡ rows
+  pub opened-sealed : (p : Place) (rows : List (List ℕ)) → All IsBlock rows → opened piles p (length rows) (sealed piles p rows) ≡ rows
   opened-sealed p rows h = ap (each_row (plain piles p) 0) (cells-sealed p rows h) ∙ rows_back p rows h
 
   pub stands_sealed : (s : State) (l : Ledger) → StandsFor piles s l → s.bytes ≡ sealed piles s.place l.rows
   stands_sealed s l h =
       let f = stored piles s.place in
-      sym (flat-cells s.rows s.bytes h.size)
-      ∙ ap flat (ext_get_or [] (cells s.rows s.bytes) (each_row f 0 l.rows)
+      sym (concat-cells s.rows s.bytes h.size)
+      ∙ ap concat (ext_get_or [] (cells s.rows s.bytes) (each_row f 0 l.rows)
       (length-cells s.rows s.bytes ∙ h.count ∙ sym (length-each_row f 0 l.rows))
       (λ k lt.
       let inside : k < s.rows = subst (λ m. k < m) (length-cells s.rows s.bytes) lt in
@@ -120,14 +110,14 @@ module _ (piles : Piles) (ok : BothLawful piles) where
       get_or-cells s.rows s.bytes k inside ∙ h.each k inside
       ∙ sym (get_or-each_row f 0 l.rows k [] below ∙ ap (λ j. f j (get_or l.rows k [])) (zero-add k))))
 
-  pub sealed_stands : (l : Ledger) → AllByRecursion IsBlock l.rows → StandsFor piles (record { rows = length l.rows; place = l.place; bytes = sealed piles l.place l.rows }) l
+  pub sealed_stands : (l : Ledger) → All IsBlock l.rows → StandsFor piles (record { rows = length l.rows; place = l.place; bytes = sealed piles l.place l.rows }) l
   sealed_stands l h =
       let f = stored piles l.place in
       let rows = l.rows in
       record {
         count = refl;
         same_place = refl;
-        size = length-flat _ (stored_sized l.place rows h) ∙ ap (λ n. 16 * n) (length-each_row f 0 rows);
+        size = length-concat _ (stored_sized l.place rows h) ∙ ap (λ n. 16 * n) (length-each_row f 0 rows);
         each = λ k lt.
             sym (get_or-cells (length rows) (sealed piles l.place rows) k lt)
             ∙ ap (λ cs. get_or cs k []) (cells-sealed l.place rows h)
@@ -140,12 +130,12 @@ module _ (piles : Piles) (ok : BothLawful piles) where
   pub restored_same : (p : Place) (k : ℕ) (b : List ℕ) → IsBlock b → restored piles p p k b ≡ b
   restored_same p k b hb = at_forth (piles p.pile) (ok p.pile) _ b (tweak_bytes 0 p.number k) hb p.station
 
-  pub moved_same : (p : Place) (n : ℕ) (bytes : List ℕ) → length bytes ≡ 16 * n → Small bytes → flat (moved piles p p (cells n bytes)) ≡ bytes
+  pub moved_same : (p : Place) (n : ℕ) (bytes : List ℕ) → length bytes ≡ 16 * n → Small bytes → concat (moved piles p p (cells n bytes)) ≡ bytes
   moved_same p n bytes e h =
       let cs = cells n bytes in
-      ap flat (ap (each_row (restored piles p p) 0) (sym (each_row_same 0 cs))
+      ap concat (ap (each_row (restored piles p p) 0) (sym (each_row_same 0 cs))
       ∙ each_row_twice (λ _ b. b) (restored piles p p) (λ _ b. b) IsBlock (restored_same p) 0 cs (cell_blocks n bytes e h)
-      ∙ each_row_same 0 cs) ∙ flat-cells n bytes e
+      ∙ each_row_same 0 cs) ∙ concat-cells n bytes e
 
   plain_block : (p : Place) (k : ℕ) (b : List ℕ) → IsBlock b → IsBlock (plain piles p k b)
   plain_block p k b hb = at_plain (piles p.pile) (ok p.pile) _ b (tweak_bytes 0 p.number k) hb p.station

@@ -1,20 +1,19 @@
 -- Stamps: a row that differs shows in the sum, and the loop that adds up the rows.
 -- Assumes nothing.
-use Rattle.std.proofs.Common.{◌≡◌, ℕ, zero, suc, ◌+◌, ◌<◌, ◌≤◌, List, [], ◌∷◌, length, get_or, drop, set, sym, refl, ap, ◌∙◌, subst, ap₂, le_of_suc-le-suc, not-suc-le-zero, add-zero, add-suc, suc-add, add-one}
+use Rattle.std.proofs.Common.{◌≡◌, ℕ, zero, suc, ◌+◌, ◌<◌, ◌≤◌, List, [], ◌∷◌, length, get_or, drop, set, sym, refl, ap, ◌∙◌, subst, ap₂, le_of_suc-le-suc, not-suc-le-zero, add-zero, add-suc, suc-add, add-one, zero-add, All}
 use Rattle.std.specs.Int.Bits.{bit_xor, xor_comm}
-use Rattle.std.proofs.lemmas.List.{drop_all, drop_more, length-set}
-use Rattle.std.proofs.ByRecursion.{All-get_or}
-use Rattle.std.specs.List.{AllByRecursion}
+use Rattle.std.proofs.lemmas.List.{drop_all, drop_more, get_or_default, length-set}
+use Rattle.std.proofs.lemmas.List.Elements.{All-get_or, All-head, All-tail}
 use Rattle.aes.specs.Block.{at, xored}
 use Rattle.aes.proofs.Blocks.{xored_bytes, xored_twice}
 use Rattle.aes.proofs.Table.{same_table}
 use Rattle.interfaces.specs.Maps.{Lawful, Maps}
 use Rattle.interfaces.specs.declared.sides.Side.TheVariants.{Left, Right}
 use Rattle.strips.specs.declared.place.Place.{Place}
-use Rattle.ledgers.specs.Rows.{Piles, IsBlock, row_tweak, header_tweak, cells, opened}
+use Rattle.ledgers.specs.Rows.{Piles, IsBlock, row_tweak, header_tweak, each_row, plain}
 use Rattle.ledgers.specs.Stamps.{header, mixed, right_of, head_of, stamp}
-use Rattle.ledgers.specs.Machine.{plain_row}
-use Rattle.ledgers.proofs.Places.{tweak_bytes, header_block, length-opened, get_or-opened}
+use Rattle.ledgers.proofs.Cells.{get_or-each_row, length-each_row}
+use Rattle.ledgers.proofs.Places.{tweak_bytes, header_block}
 
 -- ---- XOR
 xored_comm : (a b : List ℕ) → xored 16 a b ≡ xored 16 b a
@@ -36,57 +35,62 @@ mixed_more : (f : ℕ → List ℕ → List ℕ) (sum sum' b x : List ℕ) (i : 
 mixed_more f sum sum' b x i rows lt eb ex es =
     ap₂ (λ s k. mixed f s k (drop (i + 1) rows)) (es ∙ ap (xored 16 sum) (ex ∙ ap (f i) eb)) (add-one i) ∙ sym (ap (mixed f sum i) (drop_more rows i [] lt))
 
--- ---- a loop that XORs the right image of one row after the other: the first i are in the sum
-pub record Mixing (piles : Piles) (p : Place) (n : ℕ) (bytes : List ℕ) (i : ℕ) (sum : List ℕ) : Type 0 where
+-- ---- a loop that XORs the right image of one row after the other: the first i of the stored rows cs are in the sum
+pub record Mixing (piles : Piles) (p : Place) (cs : List (List ℕ)) (i : ℕ) (sum : List ℕ) : Type 0 where
   pub long : length sum ≡ 16
-  pub rest : mixed (right_of (piles p.pile) p.number) sum i (drop i (opened piles p n bytes)) ≡ stamp piles p (opened piles p n bytes)
+  pub rest : mixed (right_of (piles p.pile) p.number) sum i (drop i (each_row (plain piles p) 0 cs)) ≡ stamp piles p (each_row (plain piles p) 0 cs)
 
-module _ (piles : Piles) (p : Place) (n : ℕ) (bytes : List ℕ) where
-  pub mixing_none : (sum : List ℕ) → length sum ≡ 16 → sum ≡ head_of (piles p.pile) p.number n → Mixing piles p n bytes 0 sum
-  mixing_none sum long e = record {
-    long = long;
-    rest =
-        ap (λ x. mixed (right_of (piles p.pile) p.number) x 0 (opened piles p n bytes))
-        (e ∙ ap (head_of (piles p.pile) p.number) (sym (length-opened piles p n bytes)));
+module _ (piles : Piles) (p : Place) (cs : List (List ℕ)) where
+  abbrev rows : List (List ℕ)
+  rows = each_row (plain piles p) 0 cs
+
+  long : length rows ≡ length cs
+  long = length-each_row (plain piles p) 0 cs
+
+  pub mixing_none : (n : ℕ) (sum : List ℕ) → length cs ≡ n → length sum ≡ 16 → sum ≡ head_of (piles p.pile) p.number n → Mixing piles p cs 0 sum
+  mixing_none n sum count size e = record {
+    long = size;
+    rest = ap (λ x. mixed (right_of (piles p.pile) p.number) x 0 rows) (e ∙ ap (head_of (piles p.pile) p.number) (sym (long ∙ count)));
   }
 
-  pub mixing_more : (i : ℕ) (sum sum' : List ℕ) → Mixing piles p n bytes i sum → i < n → sum' ≡ xored 16 sum (right_of (piles p.pile) p.number i (plain_row piles p (cells n bytes) i)) → Mixing piles p n bytes (i + 1) sum'
-  mixing_more i sum sum' m lt es =
-      let rows = opened piles p n bytes in
-      let inside : i < length rows = subst (λ k. i < k) (sym (length-opened piles p n bytes)) lt in
+  pub mixing_more : (i : ℕ) (sum sum' b : List ℕ) → Mixing piles p cs i sum → i < length cs → b ≡ get_or cs i b
+      → sum' ≡ xored 16 sum (right_of (piles p.pile) p.number i (plain piles p i b)) → Mixing piles p cs (i + 1) sum'
+  mixing_more i sum sum' b m lt is es =
+      let at_i : plain piles p i b ≡ get_or rows i []
+      = ap (plain piles p i) (is ∙ get_or_default cs i b [] lt) ∙ sym (get_or-each_row (plain piles p) 0 cs i [] lt ∙ ap (λ j. plain piles p j (get_or cs i [])) (zero-add i)) in
       record {
         long = ap length es ∙ xored_long sum _;
-        rest = mixed_more (right_of (piles p.pile) p.number) sum sum' (plain_row piles p (cells n bytes) i) _ i rows inside (get_or-opened piles p n bytes i lt) refl es ∙ m.rest;
+        rest = mixed_more (right_of (piles p.pile) p.number) sum sum' (plain piles p i b) _ i rows (subst (λ k. i < k) (sym long) lt) at_i refl es ∙ m.rest;
       }
 
-  pub mixing_all : (i : ℕ) (sum : List ℕ) → Mixing piles p n bytes i sum → n ≤ i → sum ≡ stamp piles p (opened piles p n bytes)
+  pub mixing_all : (i : ℕ) (sum : List ℕ) → Mixing piles p cs i sum → length cs ≤ i → sum ≡ stamp piles p rows
   mixing_all i sum m le =
-      let rows = opened piles p n bytes in
-      let past : length rows ≤ i = subst (λ k. k ≤ i) (sym (length-opened piles p n bytes)) le in
-      sym (ap (mixed (right_of (piles p.pile) p.number) sum i) (drop_all i rows past)) ∙ m.rest
+      sym (ap (mixed (right_of (piles p.pile) p.number) sum i) (drop_all i rows (subst (λ k. k ≤ i) (sym long) le))) ∙ m.rest
 
 -- ---- sums in which one row differs
 module _ (f : ℕ → List ℕ → List ℕ) (block : (k : ℕ) (b : List ℕ) → IsBlock b → IsBlock (f k b)) where
   added : (sum : List ℕ) (k : ℕ) (b : List ℕ) → IsBlock sum → IsBlock b → IsBlock (xored 16 sum (f k b))
   added sum k b hs hb = xored_bytes 16 sum (f k b) hs.1 (block k b hb).1
 
-  mixed_cancel : (xs ys : List ℕ) (k : ℕ) (bs : List (List ℕ)) → IsBlock xs → IsBlock ys → AllByRecursion IsBlock bs → mixed f xs k bs ≡ mixed f ys k bs → xs ≡ ys
+  mixed_cancel : (xs ys : List ℕ) (k : ℕ) (bs : List (List ℕ)) → IsBlock xs → IsBlock ys → All IsBlock bs → mixed f xs k bs ≡ mixed f ys k bs → xs ≡ ys
   mixed_cancel xs ys k [] hx hy h e = e
   mixed_cancel xs ys k (b ∷ bs) hx hy h e =
+      let hb = All-head IsBlock b bs h in
       cancel xs ys (f k b) hx hy
-      (mixed_cancel (xored 16 xs (f k b)) (xored 16 ys (f k b)) (suc k) bs (added xs k b hx h.0) (added ys k b hy h.0) h.1 e)
+      (mixed_cancel (xored 16 xs (f k b)) (xored 16 ys (f k b)) (suc k) bs (added xs k b hx hb) (added ys k b hy hb) (All-tail IsBlock b bs h) e)
 
   -- where one row is another, that row's part is the same
-  mixed_one : (sum : List ℕ) (k : ℕ) (bs : List (List ℕ)) (i : ℕ) (c : List ℕ) → IsBlock sum → AllByRecursion IsBlock bs → IsBlock c → i < length bs
+  mixed_one : (sum : List ℕ) (k : ℕ) (bs : List (List ℕ)) (i : ℕ) (c : List ℕ) → IsBlock sum → All IsBlock bs → IsBlock c → i < length bs
       → mixed f sum k bs ≡ mixed f sum k (set bs i c) → f (k + i) (get_or bs i []) ≡ f (k + i) c
   mixed_one sum k [] i c hs h hc lt e = absurd (not-suc-le-zero lt)
   mixed_one sum k (b ∷ bs) zero c hs h hc lt e =
-      let same = mixed_cancel (xored 16 sum (f k b)) (xored 16 sum (f k c)) (suc k) bs (added sum k b hs h.0) (added sum k c hs hc) h.1 e in
-      ap (λ j. f j b) (add-zero k) ∙ cancel_left (f k b) (f k c) sum (block k b h.0) (block k c hc) same ∙ ap (λ j. f j c) (sym (add-zero k))
+      let hb = All-head IsBlock b bs h in
+      let same = mixed_cancel (xored 16 sum (f k b)) (xored 16 sum (f k c)) (suc k) bs (added sum k b hs hb) (added sum k c hs hc) (All-tail IsBlock b bs h) e in
+      ap (λ j. f j b) (add-zero k) ∙ cancel_left (f k b) (f k c) sum (block k b hb) (block k c hc) same ∙ ap (λ j. f j c) (sym (add-zero k))
   mixed_one sum k (b ∷ bs) (suc i) c hs h hc lt e =
       let on = add-suc k i ∙ sym (suc-add k i) in
       ap (λ j. f j (get_or bs i [])) on
-      ∙ mixed_one (xored 16 sum (f k b)) (suc k) bs i c (added sum k b hs h.0) h.1 hc (le_of_suc-le-suc lt) e
+      ∙ mixed_one (xored 16 sum (f k b)) (suc k) bs i c (added sum k b hs (All-head IsBlock b bs h)) (All-tail IsBlock b bs h) hc (le_of_suc-le-suc lt) e
       ∙ ap (λ j. f j c) (sym on)
 
 module _ (m : Maps) (ok : Lawful m) (number : ℕ) where
@@ -104,7 +108,7 @@ module _ (m : Maps) (ok : Lawful m) (number : ℕ) where
   abbrev pub stamp_by : List (List ℕ) → List ℕ
   stamp_by rows = mixed (right_of m number) (head_of m number (length rows)) 0 rows
 
-  pub stamp_one : (rows : List (List ℕ)) (i : ℕ) (c : List ℕ) → AllByRecursion IsBlock rows → IsBlock c → i < length rows → stamp_by rows ≡ stamp_by (set rows i c) → get_or rows i [] ≡ c
+  pub stamp_one : (rows : List (List ℕ)) (i : ℕ) (c : List ℕ) → All IsBlock rows → IsBlock c → i < length rows → stamp_by rows ≡ stamp_by (set rows i c) → get_or rows i [] ≡ c
   stamp_one rows i c h hc lt e =
       right_tells (0 + i) (get_or rows i []) c (All-get_or IsBlock rows i [] lt h) hc
       (mixed_one (right_of m number) right_block (head_of m number (length rows)) 0 rows i c (head_block (length rows)) h hc lt

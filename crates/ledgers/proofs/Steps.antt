@@ -1,39 +1,36 @@
 -- One call, and then any list of them: the strip follows the ledger. Assumes nothing.
-use Rattle.std.proofs.Common.{◌≡◌, ℕ, ◌*◌, ◌<◌, Bool, true, false, ltb, List, [], ◌∷◌, length, get_or, set, Some, None, Option, sym, refl, ap, ◌∙◌, subst, ap₂, zero-add, arith}
+use Rattle.std.proofs.Common.{◌≡◌, ℕ, ◌*◌, ◌<◌, Bool, true, false, ltb, List, [], ◌∷◌, length, get_or, set, Some, None, Option, sym, refl, ap, ◌∙◌, subst, ap₂, zero-add, All}
 use Rattle.std.proofs.lemmas.List.{length-set}
 use Rattle.std.proofs.lemmas.Bool.{ltb-true, ne_eqb, eqb-true}
-use Rattle.std.proofs.ByRecursion.{All-get_or, All-set}
-use Rattle.std.specs.List.{AllByRecursion}
+use Rattle.std.proofs.lemmas.List.Elements.{All-get_or, All-head, All-set, All-tail}
+use Rattle.std.proofs.lemmas.Option.{none-some}
+use Rattle.std.specs.List.{concat}
 use Rattle.strips.specs.declared.place.Place.{Place}
 use Rattle.strips.specs.declared.fault.StripFault.{StripFault}
 use Rattle.strips.specs.declared.fault.StripFault.TheVariants.{WrongMemory, NoSuchRow}
 use Rattle.ledgers.specs.declared.call.Call.{Call}
 use Rattle.ledgers.specs.declared.call.Act.{Act}
 use Rattle.ledgers.specs.declared.call.Act.TheVariants.{Write, Exchange, Convert, Read, Stamp}
-use Rattle.ledgers.specs.declared.call.Answer.TheVariants.{Shown}
-use Rattle.ledgers.specs.Rows.{Piles, IsBlock, stored, plain, each_row, flat, cells, sealed}
+use Rattle.ledgers.specs.Rows.{Piles, IsBlock, stored, plain, each_row, cells, sealed}
 use Rattle.ledgers.specs.Stamps.{stamp}
-use Rattle.ledgers.specs.Ledgers.{Ledger, unless, first, no_row, wrong_memory, act_refusal, fits, refusal, changed, accepted, answer_of, kept_or, refused_or, ledger_step, ledger_answer, ledger_run, ledger_answers}
+use Rattle.ledgers.specs.Ledgers.{Ledger, shown, unless, first, no_row, wrong_memory, act_refusal, fits, refusal, changed, accepted, answer_of, kept_or, refused_or, ledger_step, ledger_answer, ledger_run, ledger_answers}
 use Rattle.ledgers.specs.Machine.{State, SoundAct, Sound, plain_row, place_after, cells_after, carried, reply, step, step_answer, run, run_answers}
 use Rattle.ledgers.specs.Laws.{BothLawful, StandsFor}
 use Rattle.ledgers.proofs.Cells.{get_or-each_row, set-each_row, each_row_twice}
 use Rattle.ledgers.proofs.Places.{stored_back, cells-sealed, opened-sealed, stands_sealed, sealed_stands}
 
 -- ---- what an accepted call tells
-some_none : (f : StripFault) → Some f ≡ None → ⊥
-some_none f e = let z : ◌≡◌ {A = ℕ} 0 1 = cc in omega arith
-
 pub first_left : (f g : Option StripFault) → first f g ≡ None → f ≡ None
 first_left None g e = refl
-first_left (Some f) g e = absurd (some_none f e)
+first_left (Some f) g e = absurd (none-some f (sym e))
 
 pub first_right : (f g : Option StripFault) → first f g ≡ None → g ≡ None
 first_right None g e = e
-first_right (Some f) g e = absurd (some_none f e)
+first_right (Some f) g e = absurd (none-some f (sym e))
 
 pub passed : (b : Bool) (f : StripFault) → unless b f ≡ None → b ≡ true
 passed true f e = refl
-passed false f e = absurd (some_none f e)
+passed false f e = absurd (none-some f (sym e))
 
 pub row_inside : (n i : ℕ) → no_row n i ≡ None → i < n
 row_inside n i e = ltb-true i n (passed (ltb i n) (NoSuchRow i) e)
@@ -52,7 +49,7 @@ abbrev pub state_of : Piles → Ledger → State
 state_of piles l = record { rows = length l.rows; place = l.place; bytes = sealed piles l.place l.rows }
 
 module _ (piles : Piles) (ok : BothLawful piles) where
-  row_plain : (p : Place) (rows : List (List ℕ)) (i : ℕ) → AllByRecursion IsBlock rows → i < length rows → plain_row piles p (each_row (stored piles p) 0 rows) i ≡ get_or rows i []
+  row_plain : (p : Place) (rows : List (List ℕ)) (i : ℕ) → All IsBlock rows → i < length rows → plain_row piles p (each_row (stored piles p) 0 rows) i ≡ get_or rows i []
   row_plain p rows i h lt =
       ap (plain piles p i) (get_or-each_row (stored piles p) 0 rows i [] lt ∙ ap (λ j. stored piles p j (get_or rows i [])) (zero-add i))
       ∙ stored_back piles ok p i (get_or rows i []) (All-get_or IsBlock rows i [] lt h)
@@ -61,7 +58,7 @@ module _ (piles : Piles) (ok : BothLawful piles) where
   put_row p rows i b = ap (λ j. set (each_row (stored piles p) 0 rows) i (stored piles p j b)) (sym (zero-add i)) ∙ set-each_row (stored piles p) 0 rows i b
 
   -- an accepted call does to the stored rows what the ledger does to the rows
-  cells_follow : (a : Act) (l : Ledger) → AllByRecursion IsBlock l.rows → act_refusal (length l.rows) a ≡ None
+  cells_follow : (a : Act) (l : Ledger) → All IsBlock l.rows → act_refusal (length l.rows) a ≡ None
       → cells_after piles a l.place (each_row (stored piles l.place) 0 l.rows) ≡ each_row (stored piles (accepted a l).place) 0 (accepted a l).rows
   cells_follow (Write i b) l h e = put_row l.place l.rows i b
   cells_follow (Exchange i j) l h e =
@@ -79,17 +76,17 @@ module _ (piles : Piles) (ok : BothLawful piles) where
   cells_follow (Read i m) l h e = refl
   cells_follow (Stamp m) l h e = refl
 
-  reply_follows : (a : Act) (l : Ledger) → AllByRecursion IsBlock l.rows → act_refusal (length l.rows) a ≡ None → reply piles a (state_of piles l) ≡ answer_of piles a l
+  reply_follows : (a : Act) (l : Ledger) → All IsBlock l.rows → act_refusal (length l.rows) a ≡ None → reply piles a (state_of piles l) ≡ answer_of piles a l
   reply_follows (Write i b) l h e = refl
   reply_follows (Exchange i j) l h e = refl
   reply_follows (Convert d) l h e = refl
   reply_follows (Read i m) l h e =
       let n = length l.rows in
       let p = l.place in
-      ap Shown (ap (λ cs. plain_row piles p cs i) (cells-sealed piles ok p l.rows h) ∙ row_plain p l.rows i h (row_inside n i (first_left (no_row n i) _ e)))
+      ap shown (ap (λ cs. plain_row piles p cs i) (cells-sealed piles ok p l.rows h) ∙ row_plain p l.rows i h (row_inside n i (first_left (no_row n i) _ e)))
   reply_follows (Stamp m) l h e =
       let p = l.place in
-      ap (λ rows. Shown (stamp piles p rows)) (opened-sealed piles ok p l.rows h)
+      ap (λ rows. shown (stamp piles p rows)) (opened-sealed piles ok p l.rows h)
 
   pub accepted-length : (a : Act) (l : Ledger) → length (accepted a l).rows ≡ length l.rows
   accepted-length (Write i b) l = length-set l.rows i b
@@ -105,7 +102,7 @@ module _ (piles : Piles) (ok : BothLawful piles) where
   accepted_place (Read i m) l = refl
   accepted_place (Stamp m) l = refl
 
-  accepted_blocks : (a : Act) (l : Ledger) → SoundAct a → AllByRecursion IsBlock l.rows → act_refusal (length l.rows) a ≡ None → AllByRecursion IsBlock (accepted a l).rows
+  accepted_blocks : (a : Act) (l : Ledger) → SoundAct a → All IsBlock l.rows → act_refusal (length l.rows) a ≡ None → All IsBlock (accepted a l).rows
   accepted_blocks (Write i b) l sound h e = All-set IsBlock l.rows i b sound h
   accepted_blocks (Exchange i j) l sound h e =
       let rows = l.rows in
@@ -117,10 +114,10 @@ module _ (piles : Piles) (ok : BothLawful piles) where
   accepted_blocks (Read i m) l sound h e = h
   accepted_blocks (Stamp m) l sound h e = h
 
-  act_follows : (a : Act) (l : Ledger) → AllByRecursion IsBlock l.rows → act_refusal (length l.rows) a ≡ None → carried piles a (state_of piles l) ≡ state_of piles (accepted a l)
+  act_follows : (a : Act) (l : Ledger) → All IsBlock l.rows → act_refusal (length l.rows) a ≡ None → carried piles a (state_of piles l) ≡ state_of piles (accepted a l)
   act_follows a l h e =
-      let bytes : flat (cells_after piles a l.place (cells (length l.rows) (sealed piles l.place l.rows))) ≡ sealed piles (accepted a l).place (accepted a l).rows
-      = ap flat (ap (cells_after piles a l.place) (cells-sealed piles ok l.place l.rows h) ∙ cells_follow a l h e) in
+      let bytes : concat (cells_after piles a l.place (cells (length l.rows) (sealed piles l.place l.rows))) ≡ sealed piles (accepted a l).place (accepted a l).rows
+      = ap concat (ap (cells_after piles a l.place) (cells-sealed piles ok l.place l.rows h) ∙ cells_follow a l h e) in
       let long = sym (accepted-length a l) in
       let there = sym (accepted_place a l) in
       λ i. record { rows = long i; place = there i; bytes = bytes i }
@@ -129,9 +126,9 @@ module _ (piles : Piles) (ok : BothLawful piles) where
   pub record Stepped (c : Call) (l : Ledger) : Type 0 where
     pub state : step piles c (state_of piles l) ≡ state_of piles (ledger_step c l)
     pub answer : step_answer piles c (state_of piles l) ≡ ledger_answer piles c l
-    pub blocks : AllByRecursion IsBlock (ledger_step c l).rows
+    pub blocks : All IsBlock (ledger_step c l).rows
 
-  pub stepped : (c : Call) (l : Ledger) → Sound c → AllByRecursion IsBlock l.rows → Stepped c l
+  pub stepped : (c : Call) (l : Ledger) → Sound c → All IsBlock l.rows → Stepped c l
   stepped c l sound h = record { state = state_at _ refl; answer = answer_at _ refl; blocks = blocks_at _ refl }
     where
       state_at : (r : Option StripFault) → refusal (length l.rows) c ≡ r → kept_or r (state_of piles l) (carried piles c.act (state_of piles l)) ≡ state_of piles (kept_or r l (accepted c.act l))
@@ -143,30 +140,30 @@ module _ (piles : Piles) (ok : BothLawful piles) where
       answer_at (Some f) e = refl
       answer_at None e = reply_follows c.act l h (act_passed (length l.rows) c e)
 
-      blocks_at : (r : Option StripFault) → refusal (length l.rows) c ≡ r → AllByRecursion IsBlock (kept_or r l (accepted c.act l)).rows
+      blocks_at : (r : Option StripFault) → refusal (length l.rows) c ≡ r → All IsBlock (kept_or r l (accepted c.act l)).rows
       blocks_at (Some f) e = h
       blocks_at None e = accepted_blocks c.act l sound h (act_passed (length l.rows) c e)
 
   -- any list of calls
-  run_state : (cs : List Call) (l : Ledger) → AllByRecursion Sound cs → AllByRecursion IsBlock l.rows → run piles cs (state_of piles l) ≡ state_of piles (ledger_run cs l)
+  run_state : (cs : List Call) (l : Ledger) → All Sound cs → All IsBlock l.rows → run piles cs (state_of piles l) ≡ state_of piles (ledger_run cs l)
   run_state [] l sound h = refl
   run_state (c ∷ cs) l sound h =
-      let one = stepped c l sound.0 h in
-      ap (run piles cs) one.state ∙ run_state cs (ledger_step c l) sound.1 one.blocks
+      let one = stepped c l (All-head Sound c cs sound) h in
+      ap (run piles cs) one.state ∙ run_state cs (ledger_step c l) (All-tail Sound c cs sound) one.blocks
 
-  run_told : (cs : List Call) (l : Ledger) → AllByRecursion Sound cs → AllByRecursion IsBlock l.rows → run_answers piles cs (state_of piles l) ≡ ledger_answers piles cs l
+  run_told : (cs : List Call) (l : Ledger) → All Sound cs → All IsBlock l.rows → run_answers piles cs (state_of piles l) ≡ ledger_answers piles cs l
   run_told [] l sound h = refl
   run_told (c ∷ cs) l sound h =
-      let one = stepped c l sound.0 h in
-      ap₂ ◌∷◌ one.answer (ap (run_answers piles cs) one.state ∙ run_told cs (ledger_step c l) sound.1 one.blocks)
+      let one = stepped c l (All-head Sound c cs sound) h in
+      ap₂ ◌∷◌ one.answer (ap (run_answers piles cs) one.state ∙ run_told cs (ledger_step c l) (All-tail Sound c cs sound) one.blocks)
 
-  pub run_both : (cs : List Call) (l : Ledger) → AllByRecursion Sound cs → AllByRecursion IsBlock l.rows
+  pub run_both : (cs : List Call) (l : Ledger) → All Sound cs → All IsBlock l.rows
       → (run piles cs (state_of piles l) ≡ state_of piles (ledger_run cs l)) × (run_answers piles cs (state_of piles l) ≡ ledger_answers piles cs l)
   run_both cs l sound h = (run_state cs l sound h, run_told cs l sound h)
 
-  pub run_blocks : (cs : List Call) (l : Ledger) → AllByRecursion Sound cs → AllByRecursion IsBlock l.rows → AllByRecursion IsBlock (ledger_run cs l).rows
+  pub run_blocks : (cs : List Call) (l : Ledger) → All Sound cs → All IsBlock l.rows → All IsBlock (ledger_run cs l).rows
   run_blocks [] l sound h = h
-  run_blocks (c ∷ cs) l sound h = run_blocks cs (ledger_step c l) sound.1 (stepped c l sound.0 h).blocks
+  run_blocks (c ∷ cs) l sound h = run_blocks cs (ledger_step c l) (All-tail Sound c cs sound) (stepped c l (All-head Sound c cs sound) h).blocks
 
   -- what stands for a ledger is that ledger's strip
   pub stands_is : (s : State) (l : Ledger) → StandsFor piles s l → s ≡ state_of piles l
@@ -180,7 +177,7 @@ pub record KeptUp (piles : Piles) (cs : List Call) (s : State) (l : Ledger) : Ty
   pub answers : run_answers piles cs s ≡ ledger_answers piles cs l
   pub stands : StandsFor piles (run piles cs s) (ledger_run cs l)
 
-pub keeps_up : (piles : Piles) → BothLawful piles → (cs : List Call) → AllByRecursion Sound cs → (s : State) (l : Ledger) → StandsFor piles s l → KeptUp piles cs s l
+pub keeps_up : (piles : Piles) → BothLawful piles → (cs : List Call) → All Sound cs → (s : State) (l : Ledger) → StandsFor piles s l → KeptUp piles cs s l
 keeps_up piles ok cs sound s l h =
     let is = stands_is piles ok s l h in
     let ends = ap (run piles cs) is ∙ run_state piles ok cs l sound h.blocks in

@@ -1,10 +1,9 @@
 -- What bytes and stamps tell of the rows.
 -- Assumes nothing.
-use Rattle.std.proofs.Common.{◌≡◌, ℕ, ◌<◌, List, [], length, get_or, set, Some, None, Option, sym, refl, ap, ◌∙◌, subst, ap₂, ⊎_elim}
+use Rattle.std.proofs.Common.{◌≡◌, ℕ, ◌<◌, List, [], length, get_or, set, Some, None, Option, sym, refl, ap, ◌∙◌, subst, ap₂, ⊎_elim, All}
 use Rattle.std.proofs.lemmas.List.{length-set, ext_get_or, get_or-set_same, get_or-set_other}
 use Rattle.std.proofs.lemmas.Bool.{cases_eq}
-use Rattle.std.proofs.ByRecursion.{All-get_or}
-use Rattle.std.specs.List.{AllByRecursion}
+use Rattle.std.proofs.lemmas.List.Elements.{All-get_or}
 use Rattle.strips.specs.declared.fault.StripFault.{StripFault}
 use Rattle.strips.specs.declared.place.Place.{Place}
 use Rattle.ledgers.specs.declared.call.Change.TheVariants.{Turn}
@@ -19,7 +18,7 @@ use Rattle.ledgers.proofs.Steps.{state_of, stands_is, stepped}
 use Rattle.ledgers.proofs.Stamping.{stamp_by, stamp_one}
 
 module _ (piles : Piles) (ok : BothLawful piles) where
-  rows_from_sealed : (p : Place) (xs ys : List (List ℕ)) → AllByRecursion IsBlock xs → AllByRecursion IsBlock ys → length xs ≡ length ys → sealed piles p xs ≡ sealed piles p ys → xs ≡ ys
+  rows_from_sealed : (p : Place) (xs ys : List (List ℕ)) → All IsBlock xs → All IsBlock ys → length xs ≡ length ys → sealed piles p xs ≡ sealed piles p ys → xs ≡ ys
   rows_from_sealed p xs ys hx hy long e =
       sym (opened-sealed piles ok p xs hx) ∙ ap₂ (opened piles p) long e ∙ opened-sealed piles ok p ys hy
 
@@ -37,7 +36,7 @@ module _ (piles : Piles) (ok : BothLawful piles) where
       )
 
   -- ---- stamps
-  own_stamp : (l : Ledger) → AllByRecursion IsBlock l.rows → stamp_of piles (state_of piles l) ≡ stamp piles l.place l.rows
+  own_stamp : (l : Ledger) → All IsBlock l.rows → stamp_of piles (state_of piles l) ≡ stamp piles l.place l.rows
   own_stamp l h = ap (stamp piles l.place) (opened-sealed piles ok l.place l.rows h)
 
   stamp_stands : (s : State) (l : Ledger) → StandsFor piles s l → stamp_of piles s ≡ stamp piles l.place l.rows
@@ -68,7 +67,7 @@ module _ (piles : Piles) (ok : BothLawful piles) where
       (cases_eq k o.at))
 
   stamps_differ : (l m : Ledger) → l.place.number ≡ m.place.number → l.place.pile ≡ m.place.pile
-      → AllByRecursion IsBlock l.rows → AllByRecursion IsBlock m.rows → OneApart l.rows m.rows
+      → All IsBlock l.rows → All IsBlock m.rows → OneApart l.rows m.rows
       → stamp piles l.place l.rows ≡ stamp piles m.place m.rows → ⊥
   stamps_differ l m en ep hl hm o e =
       let q = l.place.pile in

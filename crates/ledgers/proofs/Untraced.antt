@@ -10,9 +10,8 @@ use Rattle.ledgers.specs.declared.call.Change.TheVariants.{Turn, Renumber, Trans
 use Rattle.ledgers.specs.declared.call.Call.{Call}
 use Rattle.ledgers.specs.declared.call.Act.{Act}
 use Rattle.ledgers.specs.declared.call.Act.TheVariants.{Write, Exchange, Convert, Read, Stamp}
-use Rattle.ledgers.specs.declared.call.Answer.TheVariants.{Shown, Done}
 use Rattle.ledgers.specs.Rows.{Piles}
-use Rattle.ledgers.specs.Ledgers.{Ledger, unless, first, fits, refusal, changed, kept_or, refused_or, ledger_step, ledger_run, ledger_answers}
+use Rattle.ledgers.specs.Ledgers.{Ledger, done, shown, unless, first, fits, refusal, changed, kept_or, refused_or, ledger_step, ledger_run, ledger_answers}
 use Rattle.ledgers.specs.Struck.{Kind, turns, renumbers, transfers, kind, same_kind, later, struck, row_answers}
 
 -- without the conversions that leave no trace, row calls answer alike and the end is the same
@@ -148,15 +147,15 @@ module _ (piles : Piles) (n : ℕ) where
   by_act : (m : ℕ) (a : Act) (cs : List Call) → Goal cs → Goal (record { memory = m; act = a } ∷ cs)
   by_act m (Write i b) cs ih rows p q e ag =
       let x = same_step (refusal (length rows) (record { memory = m; act = Write i b })) cs ih rows (set rows i b) p q e (length-set rows i b ∙ e) ag in
-      record { told = ap (λ more. refused_or (refusal (length rows) (record { memory = m; act = Write i b })) Done ∷ more) x.told; end = x.end }
+      record { told = ap (λ more. refused_or (refusal (length rows) (record { memory = m; act = Write i b })) done ∷ more) x.told; end = x.end }
   by_act m (Exchange i j) cs ih rows p q e ag =
       let new = set (set rows i (get_or rows j [])) j (get_or rows i []) in
       let x = same_step (refusal (length rows) (record { memory = m; act = Exchange i j })) cs ih rows new p q e (length-set (set rows i (get_or rows j [])) j _ ∙ length-set rows i _ ∙ e) ag in
-      record { told = ap (λ more. refused_or (refusal (length rows) (record { memory = m; act = Exchange i j })) Done ∷ more) x.told; end = x.end }
+      record { told = ap (λ more. refused_or (refusal (length rows) (record { memory = m; act = Exchange i j })) done ∷ more) x.told; end = x.end }
   by_act m (Convert d) cs ih rows p q e ag = convert m d cs ih rows p q e ag (fits n m) (later (kind d) n cs) refl refl
   by_act m (Read i k) cs ih rows p q e ag =
       let x = same_step (refusal (length rows) (record { memory = m; act = Read i k })) cs ih rows rows p q e e ag in
-      record { told = ap (λ more. refused_or (refusal (length rows) (record { memory = m; act = Read i k })) (Shown (get_or rows i [])) ∷ more) x.told; end = x.end }
+      record { told = ap (λ more. refused_or (refusal (length rows) (record { memory = m; act = Read i k })) (shown (get_or rows i [])) ∷ more) x.told; end = x.end }
   by_act m (Stamp k) cs ih rows p q e ag =
       let x = same_step (refusal (length rows) (record { memory = m; act = Stamp k })) cs ih rows rows p q e e ag in
       record { told = x.told; end = x.end }

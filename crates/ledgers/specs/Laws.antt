@@ -1,18 +1,16 @@
 -- What holds of strips, for any two piles that keep the law of forkciphers.
 -- Assumes nothing.
-use Rattle.std.specs.Prelude.{◌≡◌, ℕ, ◌*◌, ◌<◌, List, [], length, take, drop, ◌≢◌, slice_index_or}
-use Rattle.std.specs.List.{AllByRecursion}
+use Rattle.std.specs.Prelude.{◌≡◌, ℕ, ◌*◌, ◌<◌, List, [], length, take, drop, ◌≢◌, slice_index_or, All}
 use Rattle.interfaces.specs.Maps.{Lawful}
 use Rattle.strips.specs.declared.place.Pile.{Pile}
 use Rattle.strips.specs.declared.place.Station.{Station}
 use Rattle.ledgers.specs.Rows.{Piles, IsBlock, opened, stored}
-use Rattle.ledgers.specs.Ledgers.{Ledger, ledger_run, ledger_answers}
+use Rattle.ledgers.specs.Ledgers.{Answer, Ledger, ledger_run, ledger_answers}
 use Rattle.ledgers.specs.Machine.{State, stamp_of, step, run, run_answers}
 use Rattle.ledgers.specs.Struck.{StruckOut, struck, row_answers}
 use Rattle.ledgers.specs.declared.call.Change.TheVariants.{Turn}
 use Rattle.ledgers.specs.declared.call.Act.TheVariants.{Convert}
 use Rattle.ledgers.specs.declared.call.Call.{Call}
-use Rattle.ledgers.specs.declared.call.Answer.{Answer}
 
 abbrev pub BothLawful : Piles → Type 0
 BothLawful piles = (q : Pile) → Lawful (piles q)
@@ -24,7 +22,7 @@ pub record StandsFor (piles : Piles) (s : State) (l : Ledger) : Type 0 where
   pub same_place : s.place ≡ l.place
   pub size : length s.bytes ≡ 16 * s.rows
   pub each : (k : ℕ) → k < s.rows → take 16 (drop (16 * k) s.bytes) ≡ stored piles s.place k (slice_index_or l.rows k [])
-  pub blocks : AllByRecursion IsBlock l.rows
+  pub blocks : All IsBlock l.rows
 
 -- the one ledger that a strip can stand for
 abbrev pub ledger_of : Piles → State → Ledger

@@ -1,7 +1,7 @@
 -- The ledger of a strip: rows and a place. It is fed the calls' arguments, and of memory and answer places the lengths;
 -- no cipher is in it but in the value of a stamp.
 -- Assumes nothing.
-use Rattle.std.specs.Prelude.{ℕ, ◌-◌, ◌*◌, Bool, true, false, List, [], ◌∷◌, ◌++◌, length, replicate, Some, None, Option, ◌==◌, nat_le, nat_lt, slice_index_or, slice_set}
+use Rattle.std.specs.Prelude.{ℕ, ◌-◌, ◌*◌, Bool, true, false, List, [], ◌∷◌, ◌++◌, length, replicate, Some, None, Ok, Err, Option, Result, ◌==◌, nat_le, nat_lt, slice_index_or, slice_set}
 use Rattle.strips.specs.Rows.{most_text, rows_for}
 use Rattle.strips.specs.declared.fault.StripFault.{StripFault}
 use Rattle.strips.specs.declared.fault.StripFault.TheVariants.{LongText, WrongMemory, NoSuchRow, WrongAnswerPlace}
@@ -15,9 +15,21 @@ use Rattle.ledgers.specs.declared.call.Change.TheVariants.{Turn, Renumber, Trans
 use Rattle.ledgers.specs.declared.call.Act.{Act}
 use Rattle.ledgers.specs.declared.call.Act.TheVariants.{Write, Exchange, Convert, Read, Stamp}
 use Rattle.ledgers.specs.declared.call.Call.{Call}
-use Rattle.ledgers.specs.declared.call.Answer.{Answer}
-use Rattle.ledgers.specs.declared.call.Answer.TheVariants.{Done, Shown, Refused}
 
+-- ---- answers: done, what the answer place then holds, or a refusal
+abbrev pub Answer : Type 0
+Answer = Result (Option (List ℕ)) StripFault
+
+abbrev pub done : Answer
+done = Ok None
+
+abbrev pub shown : List ℕ → Answer
+shown b = Ok (Some b)
+
+abbrev pub refused : StripFault → Answer
+refused f = Err f
+
+-- ---- the ledger
 pub record Ledger : Type 0 where
   pub rows : List (List ℕ)
   pub place : Place
@@ -87,11 +99,11 @@ accepted (Read i len) l = l
 accepted (Stamp len) l = l
 
 abbrev pub answer_of : Piles → Act → Ledger → Answer
-answer_of piles (Write i b) l = Done
-answer_of piles (Exchange i j) l = Done
-answer_of piles (Convert d) l = Done
-answer_of piles (Read i len) l = Shown (slice_index_or l.rows i [])
-answer_of piles (Stamp len) l = Shown (stamp piles l.place l.rows)
+answer_of piles (Write i b) l = done
+answer_of piles (Exchange i j) l = done
+answer_of piles (Convert d) l = done
+answer_of piles (Read i len) l = shown (slice_index_or l.rows i [])
+answer_of piles (Stamp len) l = shown (stamp piles l.place l.rows)
 
 -- a refused call changes nothing and answers its fault
 abbrev pub kept_or : {S : Type 0} → Option StripFault → S → S → S
@@ -100,7 +112,7 @@ kept_or (Some f) old new = old
 
 abbrev pub refused_or : Option StripFault → Answer → Answer
 refused_or None a = a
-refused_or (Some f) a = Refused f
+refused_or (Some f) a = refused f
 
 abbrev pub ledger_step : Call → Ledger → Ledger
 ledger_step c l = kept_or (refusal (length l.rows) c) l (accepted c.act l)

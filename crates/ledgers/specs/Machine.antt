@@ -1,16 +1,14 @@
 -- A strip with its bytes, and what the calls make of them: stored rows, where the ledger has plain ones.
 -- Assumes nothing. The laws over it are in Laws.
-use Rattle.std.specs.Prelude.{◌≡◌, ℕ, List, [], ◌∷◌, slice_index_or, slice_set}
-use Rattle.std.specs.List.{AllByRecursion}
+use Rattle.std.specs.Prelude.{◌≡◌, ℕ, List, [], ◌∷◌, slice_index_or, slice_set, All}
+use Rattle.std.specs.List.{concat}
 use Rattle.strips.specs.declared.place.Place.{Place}
-use Rattle.ledgers.specs.Rows.{Piles, IsBlock, stored, plain, each_row, flat, cells, opened}
+use Rattle.ledgers.specs.Rows.{Piles, IsBlock, stored, plain, each_row, cells, opened}
 use Rattle.ledgers.specs.Stamps.{stamp}
-use Rattle.ledgers.specs.Ledgers.{count_of, filled, ledger_lay, refusal, changed, kept_or, refused_or}
+use Rattle.ledgers.specs.Ledgers.{Answer, done, shown, count_of, filled, ledger_lay, refusal, changed, kept_or, refused_or}
 use Rattle.ledgers.specs.declared.call.Act.{Act}
 use Rattle.ledgers.specs.declared.call.Act.TheVariants.{Write, Exchange, Convert, Read, Stamp}
 use Rattle.ledgers.specs.declared.call.Call.{Call}
-use Rattle.ledgers.specs.declared.call.Answer.{Answer}
-use Rattle.ledgers.specs.declared.call.Answer.TheVariants.{Done, Shown}
 
 pub record State : Type 0 where
   pub rows : ℕ
@@ -52,14 +50,14 @@ cells_after piles (Read i len) p cs = cs
 cells_after piles (Stamp len) p cs = cs
 
 abbrev pub reply : Piles → Act → State → Answer
-reply piles (Write i b) s = Done
-reply piles (Exchange i j) s = Done
-reply piles (Convert d) s = Done
-reply piles (Read i len) s = Shown (plain_row piles s.place (cells s.rows s.bytes) i)
-reply piles (Stamp len) s = Shown (stamp_of piles s)
+reply piles (Write i b) s = done
+reply piles (Exchange i j) s = done
+reply piles (Convert d) s = done
+reply piles (Read i len) s = shown (plain_row piles s.place (cells s.rows s.bytes) i)
+reply piles (Stamp len) s = shown (stamp_of piles s)
 
 abbrev pub carried : Piles → Act → State → State
-carried piles a s = record { rows = s.rows; place = place_after a s.place; bytes = flat (cells_after piles a s.place (cells s.rows s.bytes)) }
+carried piles a s = record { rows = s.rows; place = place_after a s.place; bytes = concat (cells_after piles a s.place (cells s.rows s.bytes)) }
 
 -- ---- one call, refused or not, and a list of calls, each on what the one before left
 abbrev pub step : Piles → Call → State → State
@@ -98,4 +96,4 @@ pub record Made (piles : Piles) (c : Call) (before after : State) (answer : Answ
 pub record Ran (piles : Piles) (calls : List Call) (before after : State) (answers : List Answer) : Type 0 where
   pub end : after ≡ run piles calls before
   pub answered : answers ≡ run_answers piles calls before
-  pub sound : AllByRecursion Sound calls
+  pub sound : All Sound calls

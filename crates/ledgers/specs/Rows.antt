@@ -1,6 +1,8 @@
 -- How a strip's rows lie in its bytes. A pile is a forkcipher under any number of layers; a strip has two at hand.
 -- Assumes nothing.
-use Rattle.std.specs.Prelude.{ℕ, zero, suc, ◌+◌, ◌*◌, ◌^◌, ◌<◌, List, [], ◌∷◌, ◌++◌, take, drop}
+use Rattle.std.specs.Prelude.{ℕ, suc, ◌+◌, ◌*◌, ◌^◌, ◌<◌, List, [], ◌∷◌}
+use Rattle.std.specs.List.{concat}
+use Rattle.std.specs.Simd.{first_chunks}
 use Rattle.aes.specs.Block.{Bytes, at}
 use Rattle.interfaces.specs.Maps.{Maps}
 use Rattle.interfaces.specs.Numbers.{big_endian}
@@ -54,18 +56,13 @@ abbrev pub each_row : (ℕ → List ℕ → List ℕ) → ℕ → List (List ℕ
 each_row f k [] = []
 each_row f k (b ∷ bs) = f k b ∷ each_row f (suc k) bs
 
--- rows one behind the other, and the first n rows of bytes
-abbrev pub flat : List (List ℕ) → List ℕ
-flat [] = []
-flat (b ∷ bs) = b ++ flat bs
-
+-- the first n rows of bytes
 abbrev pub cells : ℕ → List ℕ → List (List ℕ)
-cells zero bytes = []
-cells (suc n) bytes = take 16 bytes ∷ cells n (drop 16 bytes)
+cells n bytes = first_chunks 16 n bytes
 
 -- the bytes of rows at a place, and the rows whose bytes they are
 abbrev pub sealed : Piles → Place → List (List ℕ) → List ℕ
-sealed piles p rows = flat (each_row (stored piles p) 0 rows)
+sealed piles p rows = concat (each_row (stored piles p) 0 rows)
 
 abbrev pub opened : Piles → Place → ℕ → List ℕ → List (List ℕ)
 opened piles p n bytes = each_row (plain piles p) 0 (cells n bytes)

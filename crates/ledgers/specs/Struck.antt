@@ -1,13 +1,12 @@
 -- A list of calls without the conversions that leave no trace: all but the last accepted one of each kind.
 -- Assumes nothing.
 use Rattle.std.specs.Prelude.{◌≡◌, ℕ, suc, ◌≤◌, Bool, true, false, cond, not, ◌&&◌, ◌||◌, List, [], ◌∷◌}
-use Rattle.ledgers.specs.Ledgers.{fits}
+use Rattle.ledgers.specs.Ledgers.{Answer, fits}
 use Rattle.ledgers.specs.declared.call.Change.{Change}
 use Rattle.ledgers.specs.declared.call.Change.TheVariants.{Turn, Renumber, Transfer}
 use Rattle.ledgers.specs.declared.call.Act.{Act}
 use Rattle.ledgers.specs.declared.call.Act.TheVariants.{Write, Exchange, Convert, Read, Stamp}
 use Rattle.ledgers.specs.declared.call.Call.{Call}
-use Rattle.ledgers.specs.declared.call.Answer.{Answer}
 
 pub data Kind : Type 0 where
   turns renumbers transfers : Kind

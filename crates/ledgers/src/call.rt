@@ -2,7 +2,7 @@
 use strips::{Pile, Station, StripFault};
 
 // A conversion: a call that gives the strip another place.
-#[derive(Clone, Copy)]
+#[derive(Clone, Copy, PartialEq, Eq, Debug)]
 pub enum Change {
     Turn(Station),
     Renumber(u16),
@@ -10,7 +10,7 @@ pub enum Change {
 }
 
 // What a call does. Of an answer place only its length is told.
-#[derive(Clone, Copy)]
+#[derive(Clone, Copy, PartialEq, Eq, Debug)]
 pub enum Act {
     // The row, and its new block.
     Write(usize, [u8; 16]),
@@ -24,16 +24,11 @@ pub enum Act {
 }
 
 // A call, with the length of the memory that it is handed: sixteen bytes for each row are the strip's own memory.
-#[derive(Clone, Copy)]
+#[derive(Clone, Copy, PartialEq, Eq, Debug)]
 pub struct Call {
     pub memory: usize,
     pub act: Act,
 }
 
-// Done, what the answer place then holds, or a refusal.
-#[derive(Clone, Copy)]
-pub enum Answer {
-    Done,
-    Shown([u8; 16]),
-    Refused(StripFault),
-}
+// Nothing where the call is done, or what the answer place then holds; or a refusal.
+pub type Answer = Result<Option<[u8; 16]>, StripFault>;

@@ -1,70 +1,26 @@
 -- One call of a list, by what the strip's calls promise.
 -- Assumes nothing.
-use Rattle.std.proofs.Common.{◌≡◌, ℕ, ◌-◌, ◌*◌, ◌≤◌, List, ◌++◌, length, take, drop, Some, None, Option, Result, sym, refl, ap, ◌∙◌, arith}
-use Rattle.std.proofs.lemmas.Bool.{ne_eqb}
+use Rattle.std.proofs.Common.{◌≡◌, ℕ, ◌-◌, ◌*◌, ◌≤◌, List, ◌++◌, length, take, drop, Some, None, Option, sym, refl, ap, ◌∙◌, arith}
 use Rattle.std.proofs.lemmas.List.{length-take-le, take-append-drop}
+use Rattle.std.specs.List.{concat}
 use Rattle.strips.specs.declared.fault.StripFault.{StripFault}
-use Rattle.strips.specs.declared.fault.StripFault.TheVariants.{WrongAnswerPlace}
-use Rattle.ledgers.specs.Rows.{Piles, cells, flat}
-use Rattle.ledgers.specs.Ledgers.{first, kept_or, no_row, refusal, refused_or, unless, wrong_memory, wrong_place}
-use Rattle.ledgers.specs.Machine.{Made, SoundAct, State, carried, cells_after, place_after, reply, step, step_answer}
+use Rattle.ledgers.specs.Rows.{Piles, cells}
+use Rattle.ledgers.specs.Ledgers.{Answer, kept_or, refusal}
+use Rattle.ledgers.specs.Machine.{Made, SoundAct, State, carried, cells_after, place_after, step, step_answer}
 use Rattle.ledgers.specs.declared.call.Act.{Act}
-use Rattle.ledgers.specs.declared.call.Act.TheVariants.{Read, Stamp}
 use Rattle.ledgers.specs.declared.call.Call.{Call}
-use Rattle.ledgers.specs.declared.call.Answer.{Answer}
-use Rattle.ledgers.proofs.Cells.{flat-cells}
+use Rattle.ledgers.proofs.Cells.{concat-cells}
 use Rattle.ledgers.proofs.Steps.{memory_fits}
 use Rattle.ledgers.proofs.Lists.{answer_misfit, step_misfit}
-use Rattle.sealed.specs.Calls.{Shows, call, held, returned, state}
+use Rattle.sealed.specs.Calls.{call, state}
 use Rattle.sealed.specs.declared.strip.Strip.{Strip}
-use Rattle.replays.specs.Replays.{told}
-
--- ---- an answer place of another length is refused, and is as it was
-abbrev SomeFault : Option StripFault → Type 0
-SomeFault o = (f : StripFault) × (o ≡ Some f)
-
-later : (o p : Option StripFault) → SomeFault p → SomeFault (first o p)
-later None p h = h
-later (Some f) p h = (f, refl)
-
-short : (len : ℕ) → (len ≡ 16 → ⊥) → SomeFault (wrong_place len)
-short len ne = (WrongAnswerPlace, ap (λ b. unless b WrongAnswerPlace) (ne_eqb len 16 ne))
-
-pub read_refused : (rows m i len : ℕ) → (len ≡ 16 → ⊥) → SomeFault (refusal rows (record { memory = m; act = Read i len }))
-read_refused rows m i len ne = later (wrong_memory rows m) _ (later (no_row rows i) _ (short len ne))
-
-pub stamp_refused : (rows m len : ℕ) → (len ≡ 16 → ⊥) → SomeFault (refusal rows (record { memory = m; act = Stamp len }))
-stamp_refused rows m len ne = later (wrong_memory rows m) _ (short len ne)
-
-module _ (piles : Piles) (s : Strip) (m blank x' : List ℕ) (r : Result (Unit {0}) StripFault) (act : ℕ → Act) (len : ℕ) (within : len ≤ length blank) (ne : len ≡ 16 → ⊥)
-    (no : (n : ℕ) → (n ≡ 16 → ⊥) → SomeFault (refusal s.rows.count (call (act n) m)))
-    (sh : Shows piles (act (length (take (len - 0) blank))) s m (take (len - 0) blank) x' r) where
-  abbrev part : List ℕ
-  part = take (len - 0) blank
-
-  long : length part ≡ len
-  long = length-take-le (len - 0) blank (omega arith) ∙ omega arith
-
-  fault : SomeFault (refusal s.rows.count (call (act (length part)) m))
-  fault = no (length part) (λ h. ne (sym long ∙ h))
-
-  abbrev answer : Answer
-  answer = reply piles (act (length part)) (state s m)
-
-  pub unshown : told r ≡ step_answer piles (call (act len) m) (state s m)
-  unshown =
-      ap told (sh.result ∙ ap (λ o. returned (refused_or o answer)) fault.1) ∙ sym (ap (λ o. refused_or o answer) fault.1)
-      ∙ ap (λ k. step_answer piles (call (act k) m) (state s m)) long
-
-  pub unwritten : x' ++ drop (len - 0) blank ≡ blank
-  unwritten = ap (λ x. x ++ drop (len - 0) blank) (sh.place ∙ ap (λ o. held (refused_or o answer) part) fault.1) ∙ take-append-drop (len - 0) blank
 
 -- ---- a call that shows leaves the strip and its bytes
 module _ (piles : Piles) (c : Call) (s : State) (long : c.memory ≡ length s.bytes) (rows : cells_after piles c.act s.place (cells s.rows s.bytes) ≡ cells s.rows s.bytes) (place : place_after c.act s.place ≡ s.place) where
   same_at : (o : Option StripFault) → refusal s.rows c ≡ o → s ≡ kept_or o s (carried piles c.act s)
   same_at (Some f) e = refl
   same_at None e =
-      let bytes = sym (ap flat rows ∙ flat-cells s.rows s.bytes (sym long ∙ memory_fits s.rows c e)) in
+      let bytes = sym (ap concat rows ∙ concat-cells s.rows s.bytes (sym long ∙ memory_fits s.rows c e)) in
       λ i. record { rows = s.rows; place = sym place i; bytes = bytes i }
 
   same : s ≡ step piles c s

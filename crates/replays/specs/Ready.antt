@@ -1,20 +1,26 @@
 -- When a list of calls is begun: each call finds the memory and the answer place that it is to be handed.
 -- Assumes nothing.
-use Rattle.std.specs.Prelude.{ℕ, suc, Bool, cond, ◌&&◌, ◌||◌, List, [], ◌∷◌, length, Some, None, Option, ◌==◌, nat_le}
+use Rattle.std.specs.Prelude.{◌≡◌, ℕ, Bool, cond, not, ◌&&◌, ◌||◌, List, length, Some, None, Option, Result, MatchResult, ◌==◌, nat_le, option_map}
+use Rattle.std.specs.List.{position_from}
 use Rattle.strips.specs.Rows.{rows_for}
 use Rattle.strips.specs.declared.fault.StripFault.{StripFault}
-use Rattle.ledgers.specs.Ledgers.{fits, lay_refusal, wrong_memory}
+use Rattle.ledgers.specs.Ledgers.{Answer, fits, lay_refusal, wrong_memory}
 use Rattle.ledgers.specs.declared.call.Act.{Act}
 use Rattle.ledgers.specs.declared.call.Act.TheVariants.{Write, Exchange, Convert, Read, Stamp}
 use Rattle.ledgers.specs.declared.call.Call.{Call}
-use Rattle.ledgers.specs.declared.call.Answer.{Answer}
+use Rattle.replays.specs.declared.making.Room.{Room}
 use Rattle.replays.specs.declared.ready.Lengths.{Lengths}
 use Rattle.replays.specs.declared.ready.Unready.{Unready}
 use Rattle.replays.specs.declared.ready.Unready.TheVariants.{Refused, Answers, NoRoom}
 
 -- the lengths of what is handed in
-abbrev pub lengths : (memory spare blank : List ℕ) → List Answer → Lengths
-lengths m s b x = record { memory = length m; spare = length s; blank = length b; answers = length x }
+abbrev pub lengths : (memory : List ℕ) → Room → List Answer → Lengths
+lengths m r x = record { memory = length m; spare = length r.spare.now; blank = length r.blank.now; answers = length x }
+
+-- what is at hand is afterwards what it was
+pub record Untouched (r r' : Room) : Type 0 where
+  pub spare : r'.spare.now ≡ r.spare.now
+  pub blank : r'.blank.now ≡ r.blank.now
 
 -- the length of the answer place that an act names; one without names none, and 16 bytes are always at hand
 abbrev pub place_named : Act → ℕ
@@ -32,10 +38,12 @@ roomy blank len = len == 16 || nat_le len blank
 abbrev pub served : (n spare blank : ℕ) → Call → Bool
 served n spare blank c = (fits n c.memory || nat_le c.memory spare) && roomy blank (place_named c.act)
 
--- the first call that is not served, counted from k
-abbrev pub no_room : (n spare blank k : ℕ) → List Call → Option Unready
-no_room n spare blank k [] = None
-no_room n spare blank k (c ∷ cs) = cond (served n spare blank c) (no_room n spare blank (suc k) cs) (Some (NoRoom k))
+-- the first call that is not served, and that there is no room for it
+abbrev pub first_unserved : (n spare blank : ℕ) → List Call → Option ℕ
+first_unserved n spare blank calls = position_from (λ c. not (served n spare blank c)) 0 calls
+
+abbrev pub no_room : (n spare blank : ℕ) → List Call → Option Unready
+no_room n spare blank calls = option_map NoRoom (first_unserved n spare blank calls)
 
 -- a refusal of the strip's own, and else what follows
 abbrev pub after : Option StripFault → Option Unready → Option Unready
@@ -44,7 +52,7 @@ after (Some f) o = Some (Refused f)
 
 -- by the lengths of the strip's memory, the spare, the blank and the answers
 abbrev pub unserved : (n : ℕ) → Lengths → List Call → Option Unready
-unserved n h calls = cond (h.answers == length calls) (no_room n h.spare h.blank 0 calls) (Some Answers)
+unserved n h calls = cond (h.answers == length calls) (no_room n h.spare h.blank calls) (Some Answers)
 
 -- a list on a strip of n rows, and one on a text of len bytes
 abbrev pub unready : (n : ℕ) → Lengths → List Call → Option Unready
@@ -52,3 +60,7 @@ unready n h calls = after (wrong_memory n h.memory) (unserved n h calls)
 
 abbrev pub unready_text : (len : ℕ) → Lengths → List Call → Option Unready
 unready_text len h calls = after (lay_refusal len h.memory) (unserved (rows_for len) h calls)
+
+-- what a check answers that looks for such a thing: that it found none, or what it found
+abbrev pub Finds : Option Unready → Result (Unit {0}) Unready → Type 0
+Finds o r = MatchResult r (λ _. o ≡ None) (λ e. o ≡ Some e)

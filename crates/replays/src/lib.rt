@@ -6,6 +6,7 @@ mod ready;
 mod replaying;
 mod resuming;
 
+pub use making::Room;
 pub use ready::Unready;
 pub use replaying::replay;
 pub use resuming::resume;

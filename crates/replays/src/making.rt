@@ -1,15 +1,16 @@
 // One call of a list, made by the strip's own calls.
 ghost use Rattle.std.specs.Prelude.{◌≡◌, ◌*◌, true, length};
-ghost use Rattle.ledgers.specs.Rows.{IsBlock, both};
+ghost use Rattle.ledgers.specs.Rows.{IsBlock};
 ghost use Rattle.ledgers.specs.Machine.{Made, SoundAct, step_answer};
-ghost use Rattle.ledgers.specs.declared.call.Act.TheVariants.{Convert, Read, Stamp};
-ghost use Rattle.sealed.specs.Calls.{Does, call as handed, state};
-ghost use Rattle.replays.specs.Ready.{place_named, roomy, served};
-ghost use Rattle.replays.specs.Replays.{shown, told};
+ghost use Rattle.ledgers.specs.declared.call.Act.TheVariants.{Convert};
+ghost use Rattle.sealed.specs.Calls.{Does, Shows, call as handed, state};
+ghost use Rattle.sealed.specs.Piles.{images};
+ghost use Rattle.replays.specs.Asking.{asking};
+ghost use Rattle.replays.specs.Ready.{Untouched, place_named, roomy, served};
 
 use interfaces::Forkcipher;
 use ledgers::{Act, Answer, Call, Change};
-use sealed::Strip;
+use sealed::{Piles, Strip};
 use strips::StripFault;
 
 // A block is one.
@@ -26,93 +27,76 @@ fn is_sound(act: Act)
     }
 }
 
-fn tell(outcome: Result<(), StripFault>) -> Answer
-    ensures { result ≡ told outcome }
-{
-    match outcome {
-        Ok(()) => Answer::Done,
-        Err(fault) => Answer::Refused(fault),
-    }
-}
-
-fn show(outcome: Result<(), StripFault>, block: [u8; 16]) -> Answer
-    ensures { result ≡ shown outcome block }
-{
-    match outcome {
-        Ok(()) => Answer::Shown(block),
-        Err(fault) => Answer::Refused(fault),
-    }
-}
-
 fn convert<H: Forkcipher, A: Forkcipher>(
-    home: &H,
-    away: &A,
+    piles: &Piles<'_, H, A>,
     strip: &mut Strip,
     memory: &mut [u8],
     change: Change,
 ) -> Result<(), StripFault>
     ensures { Does
-        (both (H.Forkcipher.maps home.now) (A.Forkcipher.maps away.now))
+        (images H.maps A.maps piles.now)
         (Convert change) strip.old strip.new memory.old memory.new result }
 {
     match change {
-        Change::Turn(station) => strip.turn(home, away, memory, station),
-        Change::Renumber(number) => strip.renumber(home, away, memory, number),
-        Change::Transfer(pile) => strip.transfer(home, away, memory, pile),
+        Change::Turn(station) => strip.turn(piles, memory, station),
+        Change::Renumber(number) => strip.renumber(piles, memory, number),
+        Change::Transfer(pile) => strip.transfer(piles, memory, pile),
     }
 }
 
-// A read with an answer place of so many bytes.
-fn read<H: Forkcipher, A: Forkcipher>(
-    home: &H,
-    away: &A,
+// What a strip is asked: a row, or its stamp. With a closure in its place `answer` would have to ask of it, clause by
+// clause, what `Shows` says of both in one word.
+#[derive(Clone, Copy)]
+enum Question {
+    Row(usize),
+    Stamp,
+}
+
+// Puts what is asked into the answer place.
+fn ask<H: Forkcipher, A: Forkcipher>(
+    piles: &Piles<'_, H, A>,
+    strip: &Strip,
+    memory: &[u8],
+    question: Question,
+    place: &mut [u8],
+) -> Result<(), StripFault>
+    ensures { Shows
+        (images H.maps A.maps piles.now)
+        (asking question (length place.old)) strip.now memory.now place.old place.new result }
+{
+    match question {
+        Question::Row(row) => strip.read(piles, memory, row, place),
+        Question::Stamp => strip.stamp(piles, memory, place),
+    }
+}
+
+// What is answered with an answer place of so many bytes.
+fn answer<H: Forkcipher, A: Forkcipher>(
+    piles: &Piles<'_, H, A>,
     strip: &Strip,
     memory: &[u8],
     blank: &mut [u8],
-    row: usize,
+    question: Question,
     len: usize,
 ) -> Answer
     requires { roomy (length blank.old) len ≡ true }
     ensures answer { result ≡ step_answer
-        (both (H.Forkcipher.maps home.now) (A.Forkcipher.maps away.now))
-        (handed (Read row len) memory.now) (state strip.now memory.now) }
+        (images H.maps A.maps piles.now)
+        (handed (asking question len) memory.now) (state strip.now memory.now) }
     ensures blank { blank.new ≡ blank.old }
 {
     if len == 16 {
         let mut place = [0; 16];
-        let result = strip.read(home, away, memory, row, &mut place);
-        return show(result, place);
+        ask(piles, strip, memory, question, &mut place)?;
+        return Ok(Some(place));
     }
-    tell(strip.read(home, away, memory, row, &mut blank[0..len]))
-}
-
-// A stamp with an answer place of so many bytes.
-fn stamp<H: Forkcipher, A: Forkcipher>(
-    home: &H,
-    away: &A,
-    strip: &Strip,
-    memory: &[u8],
-    blank: &mut [u8],
-    len: usize,
-) -> Answer
-    requires { roomy (length blank.old) len ≡ true }
-    ensures answer { result ≡ step_answer
-        (both (H.Forkcipher.maps home.now) (A.Forkcipher.maps away.now))
-        (handed (Stamp len) memory.now) (state strip.now memory.now) }
-    ensures blank { blank.new ≡ blank.old }
-{
-    if len == 16 {
-        let mut place = [0; 16];
-        let result = strip.stamp(home, away, memory, &mut place);
-        return show(result, place);
-    }
-    tell(strip.stamp(home, away, memory, &mut blank[0..len]))
+    ask(piles, strip, memory, question, &mut blank[0..len])?;
+    Ok(None)
 }
 
 // One act, handed this memory.
 fn perform<H: Forkcipher, A: Forkcipher>(
-    home: &H,
-    away: &A,
+    piles: &Piles<'_, H, A>,
     strip: &mut Strip,
     memory: &mut [u8],
     blank: &mut [u8],
@@ -120,41 +104,52 @@ fn perform<H: Forkcipher, A: Forkcipher>(
 ) -> Answer
     requires { roomy (length blank.old) (place_named act) ≡ true }
     ensures made { Made
-        (both (H.Forkcipher.maps home.now) (A.Forkcipher.maps away.now))
+        (images H.maps A.maps piles.now)
         (handed act memory.old) (state strip.old memory.old) (state strip.new memory.new) result }
     ensures blank { blank.new ≡ blank.old }
 {
     is_sound(act);
     match act {
-        Act::Write(row, block) => tell(strip.write(home, away, memory, row, block)),
-        Act::Exchange(first, second) => tell(strip.exchange(home, away, memory, first, second)),
-        Act::Convert(change) => tell(convert(home, away, strip, memory, change)),
-        Act::Read(row, len) => read(home, away, strip, memory, blank, row, len),
-        Act::Stamp(len) => stamp(home, away, strip, memory, blank, len),
+        Act::Write(row, block) => strip.write(piles, memory, row, block).map(|()| None),
+        Act::Exchange(first, second) => strip.exchange(piles, memory, first, second).map(|()| None),
+        Act::Convert(change) => convert(piles, strip, memory, change).map(|()| None),
+        Act::Read(row, len) => answer(piles, strip, memory, blank, Question::Row(row), len),
+        Act::Stamp(len) => answer(piles, strip, memory, blank, Question::Stamp, len),
     }
+}
+
+// What a list has at hand for calls that are not handed what fits.
+#[derive(Drop)]
+pub struct Room<'a> {
+    // Memory of any other length is a front part of this.
+    pub spare: &'a mut [u8],
+    // An answer place of any other length is a front part of this.
+    pub blank: &'a mut [u8],
 }
 
 // One call of a list: handed the strip's own memory, or so much of the spare memory as another length names.
 pub(crate) fn hand<H: Forkcipher, A: Forkcipher>(
-    home: &H,
-    away: &A,
+    piles: &Piles<'_, H, A>,
     strip: &mut Strip,
     memory: &mut [u8],
-    spare: &mut [u8],
-    blank: &mut [u8],
+    room: &mut Room<'_>,
     call: Call,
 ) -> Answer
     requires memory_fits { length memory.old ≡ 16 * strip.old.rows.count }
-    requires call_served { served strip.old.rows.count (length spare.old) (length blank.old) call ≡ true }
+    requires call_served { served strip.old.rows.count (length room.old.spare.now) (length room.old.blank.now) call ≡ true }
     ensures made { Made
-        (both (H.Forkcipher.maps home.now) (A.Forkcipher.maps away.now))
+        (images H.maps A.maps piles.now)
         call (state strip.old memory.old) (state strip.new memory.new) result }
-    ensures spare { spare.new ≡ spare.old }
-    ensures blank { blank.new ≡ blank.old }
+    ensures room { Untouched room.old room.new }
 {
     if call.memory == memory.len() {
-        return perform(home, away, strip, memory, blank, call.act);
+        return perform(piles, strip, memory, room.blank, call.act);
     }
-    let n = call.memory;
-    perform(home, away, strip, &mut spare[0..n], blank, call.act)
+    perform(
+        piles,
+        strip,
+        &mut room.spare[0..call.memory],
+        room.blank,
+        call.act,
+    )
 }

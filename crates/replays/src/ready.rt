@@ -1,12 +1,14 @@
 // When a list of calls is begun.
 ghost use Rattle.std.specs.Prelude.{◌≡◌};
-ghost use Rattle.replays.specs.Ready.{lengths, no_room, place_named, roomy, served, unready, unready_text, unserved};
+ghost use Rattle.replays.specs.declared.ready.Unready.TheVariants.{Refused};
+ghost use Rattle.replays.specs.Ready.{Finds, first_unserved, lengths, place_named, roomy, served, unready, unready_text};
 
+use crate::making::Room;
 use ledgers::{Act, Answer, Call};
 use strips::{RowCount, StripFault};
 
 // Why a list of calls is not begun.
-#[derive(Clone, Copy)]
+#[derive(Clone, Copy, PartialEq, Eq, Debug)]
 pub enum Unready {
     // The strip's own refusal: the text is too long, or the memory is not sixteen bytes for each row.
     Refused(StripFault),
@@ -14,6 +16,14 @@ pub enum Unready {
     Answers,
     // The first call for which the spare memory or the blank answer place is too short.
     NoRoom(usize),
+}
+
+impl From<StripFault> for Unready {
+    ghost from_gives = { λ fault why. why ≡ Refused fault };
+
+    fn from(fault: StripFault) -> Unready {
+        Unready::Refused(fault)
+    }
 }
 
 // The lengths of what is handed in with a list of calls.
@@ -26,13 +36,13 @@ pub(crate) struct Lengths {
 }
 
 impl Lengths {
-    pub(crate) fn of(memory: &[u8], spare: &[u8], blank: &[u8], answers: &[Answer]) -> Lengths
-        ensures { result ≡ lengths memory.now spare.now blank.now answers.now }
+    pub(crate) fn of(memory: &[u8], room: &Room<'_>, answers: &[Answer]) -> Lengths
+        ensures { result ≡ lengths memory.now room.now answers.now }
     {
         Lengths {
             memory: memory.len(),
-            spare: spare.len(),
-            blank: blank.len(),
+            spare: room.spare.len(),
+            blank: room.blank.len(),
             answers: answers.len(),
         }
     }
@@ -62,42 +72,34 @@ fn is_served(rows: RowCount, spare: usize, blank: usize, call: Call) -> bool
 }
 
 // The first call that is not served.
-fn first_unserved(rows: RowCount, spare: usize, blank: usize, calls: &[Call]) -> Option<Unready>
-    ensures { result ≡ no_room rows.count spare blank 0 calls.now }
+fn first_unserved(rows: RowCount, spare: usize, blank: usize, calls: &[Call]) -> Option<usize>
+    ensures { result ≡ first_unserved rows.count spare blank calls.now }
 {
-    for i in 0..calls.len() {
-        if !is_served(rows, spare, blank, calls[i]) {
-            return Some(Unready::NoRoom(i));
-        }
-    }
-    None
+    calls
+        .iter()
+        .position(|call| !is_served(rows, spare, blank, *call))
 }
 
-fn why_unserved(rows: RowCount, held: Lengths, calls: &[Call]) -> Option<Unready>
-    ensures { result ≡ unserved rows.count held calls.now }
-{
-    if held.answers != calls.len() {
-        return Some(Unready::Answers);
-    }
-    first_unserved(rows, held.spare, held.blank, calls)
-}
-
-// Why a list on a strip of so many rows is not begun.
-pub(crate) fn why_unready(rows: RowCount, held: Lengths, calls: &[Call]) -> Option<Unready>
-    ensures { result ≡ unready rows.count held calls.now }
+// Is a list on a strip of so many rows begun?
+pub(crate) fn check(rows: RowCount, held: Lengths, calls: &[Call]) -> Result<(), Unready>
+    ensures { Finds (unready rows.count held calls.now) result }
 {
     if held.memory != 16 * rows.get() {
-        return Some(Unready::Refused(StripFault::WrongMemory));
+        return Err(Unready::Refused(StripFault::WrongMemory));
     }
-    why_unserved(rows, held, calls)
+    if held.answers != calls.len() {
+        return Err(Unready::Answers);
+    }
+    match first_unserved(rows, held.spare, held.blank, calls) {
+        Some(call) => Err(Unready::NoRoom(call)),
+        None => Ok(()),
+    }
 }
 
-// Why a list on a text of so many bytes is not begun.
-pub(crate) fn why_text_unready(len: usize, held: Lengths, calls: &[Call]) -> Option<Unready>
-    ensures { result ≡ unready_text len held calls.now }
+// Is a list on a text of so many bytes begun?
+pub(crate) fn check_text(len: usize, held: Lengths, calls: &[Call]) -> Result<(), Unready>
+    ensures { Finds (unready_text len held calls.now) result }
 {
-    let Some(rows) = RowCount::of_text(len) else {
-        return Some(Unready::Refused(StripFault::LongText));
-    };
-    why_unready(rows, held, calls)
+    let rows = RowCount::of_text(len).ok_or(StripFault::LongText)?;
+    check(rows, held, calls)
 }

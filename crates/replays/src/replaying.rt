@@ -1,43 +1,37 @@
 // A list of calls on a strip that is laid from a text.
 ghost use Rattle.std.specs.Prelude.{◌≡◌};
-ghost use Rattle.ledgers.specs.Rows.{both};
-ghost use Rattle.replays.specs.Ready.{lengths};
+ghost use Rattle.sealed.specs.Piles.{images};
+ghost use Rattle.replays.specs.Ready.{Untouched, lengths};
 ghost use Rattle.replays.specs.Replays.{Replays};
 
-use crate::ready::{Lengths, Unready, why_text_unready};
+use crate::making::Room;
+use crate::ready::{Lengths, Unready, check_text};
 use crate::resuming::make_all;
 use interfaces::Forkcipher;
 use ledgers::{Answer, Call};
-use sealed::Strip;
+use sealed::{Piles, Strip};
 
-// Lays a strip from a text and makes the calls on it. Spare memory and blank answer place are as they were.
+// Lays a strip from a text and makes the calls on it. What is at hand in the room stays. Each answer goes into the caller's
+// slice beside the calls: a list of both would have to be made, and there is no heap. It does not go by `resume`, since all
+// is checked before the text is put into the memory.
 pub fn replay<H: Forkcipher, A: Forkcipher>(
-    home: &H,
-    away: &A,
+    piles: &Piles<'_, H, A>,
     number: u16,
     text: &[u8],
     memory: &mut [u8],
-    spare: &mut [u8],
-    blank: &mut [u8],
+    room: &mut Room<'_>,
     calls: &[Call],
     answers: &mut [Answer],
 ) -> Result<Strip, Unready>
     ensures law { Replays
-        (both (H.Forkcipher.maps home.now) (A.Forkcipher.maps away.now))
-        calls.now (lengths memory.old spare.old blank.old answers.old)
+        (images H.maps A.maps piles.now)
+        calls.now (lengths memory.old room.old answers.old)
         number text.now memory.old memory.new answers.old answers.new result }
-    ensures spare { spare.new ≡ spare.old }
-    ensures blank { blank.new ≡ blank.old }
+    ensures room { Untouched room.old room.new }
 {
-    let held = Lengths::of(memory, spare, blank, answers);
-    if let Some(why) = why_text_unready(text.len(), held, calls) {
-        return Err(why);
-    }
-    match Strip::lay(number, text, memory) {
-        Ok(mut strip) => {
-            make_all(home, away, &mut strip, memory, spare, blank, calls, answers);
-            Ok(strip)
-        }
-        Err(fault) => Err(Unready::Refused(fault)),
-    }
+    let held = Lengths::of(memory, room, answers);
+    check_text(text.len(), held, calls)?;
+    let mut strip = Strip::lay(number, text, memory)?;
+    make_all(piles, &mut strip, memory, room, calls, answers);
+    Ok(strip)
 }

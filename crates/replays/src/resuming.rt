@@ -1,63 +1,56 @@
 // A list of calls on a strip that is there.
 ghost use Rattle.std.specs.Prelude.{◌≡◌, None};
-ghost use Rattle.ledgers.specs.Rows.{both};
 ghost use Rattle.ledgers.specs.Machine.{Ran};
 ghost use Rattle.sealed.specs.Calls.{state};
-ghost use Rattle.replays.specs.Ready.{lengths, unready};
+ghost use Rattle.sealed.specs.Piles.{images};
+ghost use Rattle.replays.specs.Ready.{Untouched, lengths, unready};
 ghost use Rattle.replays.specs.Replays.{Resumes};
 
-use crate::making::hand;
-use crate::ready::{Lengths, Unready, why_unready};
+use crate::making::{Room, hand};
+use crate::ready::{Lengths, Unready, check};
 use interfaces::Forkcipher;
 use ledgers::{Answer, Call};
-use sealed::Strip;
+use sealed::{Piles, Strip};
 
 // Makes the calls in their order, each on what the one before left, and writes down each answer.
 pub(crate) fn make_all<H: Forkcipher, A: Forkcipher>(
-    home: &H,
-    away: &A,
+    piles: &Piles<'_, H, A>,
     strip: &mut Strip,
     memory: &mut [u8],
-    spare: &mut [u8],
-    blank: &mut [u8],
+    room: &mut Room<'_>,
     calls: &[Call],
     answers: &mut [Answer],
 )
-    requires { unready strip.old.rows.count (lengths memory.old spare.old blank.old answers.old) calls.now ≡ None }
+    requires { unready strip.old.rows.count (lengths memory.old room.old answers.old) calls.now ≡ None }
     ensures ran { Ran
-        (both (H.Forkcipher.maps home.now) (A.Forkcipher.maps away.now))
+        (images H.maps A.maps piles.now)
         calls.now (state strip.old memory.old) (state strip.new memory.new) answers.new }
-    ensures spare { spare.new ≡ spare.old }
-    ensures blank { blank.new ≡ blank.old }
+    ensures room { Untouched room.old room.new }
 {
-    for i in 0..calls.len() {
-        let answer = hand(home, away, strip, memory, spare, blank, calls[i]);
+    // The answers by index: tried as `zip` with `iter_mut`, and the proof did not close.
+    for (i, call) in calls.iter().enumerate() {
+        let answer = hand(piles, strip, memory, room, *call);
         answers[i] = answer;
     }
 }
 
-// Makes the calls on a strip. Spare memory and blank answer place are as they were.
+// Makes the calls on a strip. What is at hand in the room stays.
 pub fn resume<H: Forkcipher, A: Forkcipher>(
-    home: &H,
-    away: &A,
+    piles: &Piles<'_, H, A>,
     strip: &mut Strip,
     memory: &mut [u8],
-    spare: &mut [u8],
-    blank: &mut [u8],
+    room: &mut Room<'_>,
     calls: &[Call],
     answers: &mut [Answer],
 ) -> Result<(), Unready>
     ensures law { Resumes
-        (both (H.Forkcipher.maps home.now) (A.Forkcipher.maps away.now))
-        calls.now (lengths memory.old spare.old blank.old answers.old)
+        (images H.maps A.maps piles.now)
+        calls.now (lengths memory.old room.old answers.old)
         strip.old strip.new memory.old memory.new answers.old answers.new result }
-    ensures spare { spare.new ≡ spare.old }
-    ensures blank { blank.new ≡ blank.old }
+    ensures room { Untouched room.old room.new }
 {
-    let held = Lengths::of(memory, spare, blank, answers);
-    if let Some(why) = why_unready(strip.rows(), held, calls) {
-        return Err(why);
-    }
-    make_all(home, away, strip, memory, spare, blank, calls, answers);
+    let held = Lengths::of(memory, room, answers);
+    check(strip.rows(), held, calls)?;
+    make_all(piles, strip, memory, room, calls, answers);
     Ok(())
 }

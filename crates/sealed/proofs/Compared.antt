@@ -1,45 +1,41 @@
 -- Two strips are compared.
 -- Assumes nothing.
-use Rattle.std.proofs.Common.{◌≡◌, ℕ, ◌<◌, Bool, false, List, [], length, get_or, Decides, sym, ap, ◌∙◌, subst}
-use Rattle.std.proofs.lemmas.List.{ext_get_or}
-use Rattle.std.proofs.lemmas.Bool.{true≢false}
-use Rattle.ledgers.specs.Rows.{Piles}
+use Rattle.std.proofs.Common.{◌≡◌, ℕ, ◌<◌, Bool, List, [], length, get_or, Decides, sym, ap, ◌∙◌, subst, zero-add}
+use Rattle.std.proofs.lemmas.List.{ext_get_or, get_or_default}
+use Rattle.strips.specs.declared.place.Place.{Place}
+use Rattle.ledgers.specs.Rows.{Piles, plain}
 use Rattle.ledgers.specs.Machine.{State}
 use Rattle.ledgers.specs.Laws.{BothLawful, ledger_of}
-use Rattle.ledgers.proofs.Places.{get_or-opened, length-opened}
+use Rattle.ledgers.proofs.Cells.{get_or-each_row, length-each_row}
 use Rattle.ledgers.proofs.Tells.{bytes_tell_rows, rows_are}
-use Rattle.sealed.specs.Calls.{SameRows, row_of, state}
-use Rattle.sealed.specs.declared.strip.Strip.{Strip}
+use Rattle.sealed.specs.Calls.{SameRows}
+use Rattle.sealed.specs.Serving.{opened_rows}
 
 pub decides_same : {X : Type 0} {r : Bool} (x y : X) {x' y' : X} → x ≡ x' → y ≡ y' → Decides r (x ≡ y) → Decides r (x' ≡ y')
 decides_same x y ex ey d = ((λ t. sym ex ∙ d.0 t ∙ ey), (λ e. d.1 (ex ∙ e ∙ sym ey)))
 
 -- ---- row by row
-module _ (piles : Piles) (s t : Strip) (m n : List ℕ) (count : s.rows.count ≡ t.rows.count) where
-  abbrev rows : Strip → List ℕ → List (List ℕ)
-  rows x bytes = (ledger_of piles (state x bytes)).rows
+module _ (piles : Piles) (p q : Place) (xs ys : List (List ℕ)) (count : length xs ≡ length ys) where
+  row_is : (z : Place) (zs : List (List ℕ)) (k : ℕ) (d : List ℕ) → k < length zs → plain piles z k (get_or zs k d) ≡ get_or (opened_rows piles z zs) k []
+  row_is z zs k d lt =
+      ap (plain piles z k) (get_or_default zs k d [] lt)
+      ∙ sym (get_or-each_row (plain piles z) 0 zs k [] lt ∙ ap (λ j. plain piles z j (get_or zs k [])) (zero-add k))
 
-  row_is : (x : Strip) (bytes : List ℕ) (k : ℕ) → k < x.rows.count → row_of piles x bytes k ≡ get_or (rows x bytes) k []
-  row_is x bytes k lt = get_or-opened piles x.place x.rows.count bytes k lt
+  long : (z : Place) (zs : List (List ℕ)) → length (opened_rows piles z zs) ≡ length zs
+  long z zs = length-each_row (plain piles z) 0 zs
 
-  long : (x : Strip) (bytes : List ℕ) → length (rows x bytes) ≡ x.rows.count
-  long x bytes = length-opened piles x.place x.rows.count bytes
-
-  pub each_same : ((k : ℕ) → k < s.rows.count → row_of piles s m k ≡ row_of piles t n k) → rows s m ≡ rows t n
+  pub each_same : ((k : ℕ) → k < length xs → plain piles p k (get_or xs k []) ≡ plain piles q k (get_or ys k [])) → opened_rows piles p xs ≡ opened_rows piles q ys
   each_same h =
-      ext_get_or [] (rows s m) (rows t n) (long s m ∙ count ∙ sym (long t n))
+      ext_get_or [] (opened_rows piles p xs) (opened_rows piles q ys) (long p xs ∙ count ∙ sym (long q ys))
       (λ k lt.
-      let inside = subst (λ z. k < z) (long s m) lt in
-      sym (row_is s m k inside) ∙ h k inside ∙ row_is t n k (subst (λ z. k < z) count inside))
+      let inside = subst (λ z. k < z) (long p xs) lt in
+      sym (row_is p xs k [] inside) ∙ h k inside ∙ row_is q ys k [] (subst (λ z. k < z) count inside))
 
-  pub one_same : (k : ℕ) → k < s.rows.count → rows s m ≡ rows t n → row_of piles s m k ≡ row_of piles t n k
-  one_same k lt e = row_is s m k lt ∙ ap (λ xs. get_or xs k []) e ∙ sym (row_is t n k (subst (λ z. k < z) count lt))
+  pub one_same : (k : ℕ) (d e : List ℕ) → k < length xs → opened_rows piles p xs ≡ opened_rows piles q ys → plain piles p k (get_or xs k d) ≡ plain piles q k (get_or ys k e)
+  one_same k d e lt same = row_is p xs k d lt ∙ ap (λ zs. get_or zs k []) same ∙ sym (row_is q ys k e (subst (λ z. k < z) count lt))
 
 -- ---- what the answer says of the ledgers
 module _ (piles : Piles) (ok : BothLawful piles) (s t : State) where
-  pub by_count : (s.rows ≡ t.rows → ⊥) → SameRows piles s t false
-  by_count ne l k hs ht = ((λ z. absurd (true≢false (sym z))), (λ e. absurd (ne (hs.count ∙ ap length e ∙ sym ht.count))))
-
   pub by_bytes : (b : Bool) → s.rows ≡ t.rows → s.place ≡ t.place → Decides b (s.bytes ≡ t.bytes) → SameRows piles s t b
   by_bytes b count place d l k hs ht =
       let tell = bytes_tell_rows piles ok s t l k hs ht count place in

@@ -1,3 +1,4 @@
 pub mod Compared
 pub mod Laid
+pub mod Lawful
 pub mod Staying

@@ -1,16 +1,15 @@
 -- A strip that goes where it is already.
 use Rattle.std.proofs.Common.{◌≡◌, ℕ, ◌*◌, List, length, None, Ok, sym, ap, ◌∙◌}
 use Rattle.std.proofs.lemmas.Bool.{eq-eqb}
-use Rattle.ledgers.specs.Rows.{Small}
-use Rattle.ledgers.specs.Rows.{Piles, cells, flat}
-use Rattle.ledgers.specs.Ledgers.{changed, first, kept_or, refusal, refused_or, unless}
+use Rattle.std.specs.List.{concat}
+use Rattle.ledgers.specs.Rows.{Piles, Small, cells}
+use Rattle.ledgers.specs.Ledgers.{changed, done, first, kept_or, refusal, refused_or, unless}
 use Rattle.ledgers.specs.Machine.{State, carried, moved}
 use Rattle.ledgers.specs.Laws.{BothLawful}
 use Rattle.strips.specs.declared.place.Station.{Station}
 use Rattle.ledgers.specs.declared.call.Act.{Act}
 use Rattle.ledgers.specs.declared.call.Act.TheVariants.{Convert}
 use Rattle.ledgers.specs.declared.call.Change.TheVariants.{Turn}
-use Rattle.ledgers.specs.declared.call.Answer.TheVariants.{Done}
 use Rattle.strips.specs.declared.fault.StripFault.TheVariants.{WrongMemory}
 use Rattle.ledgers.proofs.Places.{moved_same}
 use Rattle.sealed.specs.Calls.{Does, at_place, call, returned, state}
@@ -29,12 +28,12 @@ module _ (piles : Piles) (ok : BothLawful piles) (s : Strip) (m : List ℕ) (wan
   there : s.place ≡ changed (Turn wanted) s.place
   there i = record { number = s.place.number; station = e i; pile = s.place.pile }
 
-  pub stays : Does piles act s (at_place (changed (Turn wanted) s.place) s) m m (Ok tt)
+  pub stays : Does piles act s s m m (Ok tt)
   stays = record {
-    result = ap (λ r. returned (refused_or r Done)) (sym passes);
-    strip = ap (λ r. at_place (kept_or r (state s m) after).place s) (sym passes);
+    result = ap (λ r. returned (refused_or r done)) (sym passes);
+    strip = ap (λ p. at_place p s) there ∙ ap (λ r. at_place (kept_or r (state s m) after).place s) (sym passes);
     memory =
         sym (moved_same piles ok s.place s.rows.count m long small)
-        ∙ ap (λ p. flat (moved piles s.place p (cells s.rows.count m))) there
+        ∙ ap (λ p. concat (moved piles s.place p (cells s.rows.count m))) there
         ∙ ap (λ r. (kept_or r (state s m) after).bytes) (sym passes);
   }

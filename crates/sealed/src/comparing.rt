@@ -1,64 +1,39 @@
 // Two strips are compared.
-ghost use Rattle.std.specs.Prelude.{◌≡◌, ◌*◌, ◌<◌, length, Decides};
-ghost use Rattle.ledgers.specs.Rows.{both};
-ghost use Rattle.ledgers.specs.Laws.{BytesTellRows, ledger_of};
-ghost use Rattle.sealed.specs.Calls.{Compares, SameRows, row_of, state};
+ghost use Rattle.std.specs.Prelude.{◌≡◌, ◌*◌, ◌≤◌, length, Decides};
+ghost use Rattle.strips.specs.Rows.{most_rows};
+ghost use Rattle.ledgers.specs.Laws.{BytesTellRows};
+ghost use Rattle.sealed.specs.Calls.{Compares, SameRows, state};
+ghost use Rattle.sealed.specs.Piles.{images};
+ghost use Rattle.sealed.specs.Serving.{opened_rows};
 
-use crate::Strip;
+use crate::{Piles, Strip};
 use interfaces::Forkcipher;
-use strips::StripFault;
+use strips::{Place, StripFault};
 
-impl Strip {
-    // Is this row's plain block the same in both?
-    fn same_row<H: Forkcipher, A: Forkcipher>(
-        &self,
-        home: &H,
-        away: &A,
-        memory: &[u8],
-        other: &Strip,
-        others: &[u8],
-        row: usize,
-    ) -> bool
-        requires memory_fits { length memory.now ≡ 16 * self.now.rows.count }
-        requires others_fit { length others.now ≡ 16 * other.now.rows.count }
-        requires row_within { row < self.now.rows.count }
-        requires row_within_other { row < other.now.rows.count }
+impl<H: Forkcipher, A: Forkcipher> Piles<'_, H, A> {
+    // Are the plain blocks of all rows the same, stored at one place and at another?
+    fn same_plain(&self, place: Place, rows: &[[u8; 16]], other: Place, others: &[[u8; 16]]) -> bool
+        requires few { length rows.now ≤ most_rows }
+        requires same_count { length rows.now ≡ length others.now }
         ensures { Decides result (
-            row_of (both (H.Forkcipher.maps home.now) (A.Forkcipher.maps away.now)) self.now memory.now row
-            ≡ row_of (both (H.Forkcipher.maps home.now) (A.Forkcipher.maps away.now)) other.now others.now row) }
+            opened_rows (images H.maps A.maps self.now) place rows.now
+            ≡ opened_rows (images H.maps A.maps self.now) other others.now) }
     {
-        self.plain(home, away, memory, row) == other.plain(home, away, others, row)
-    }
-
-    // Are all rows' plain blocks the same in both?
-    fn same_plain<H: Forkcipher, A: Forkcipher>(
-        &self,
-        home: &H,
-        away: &A,
-        memory: &[u8],
-        other: &Strip,
-        others: &[u8],
-    ) -> bool
-        requires memory_fits { length memory.now ≡ 16 * self.now.rows.count }
-        requires others_fit { length others.now ≡ 16 * other.now.rows.count }
-        requires same_count { self.now.rows.count ≡ other.now.rows.count }
-        ensures { Decides result (
-            (ledger_of (both (H.Forkcipher.maps home.now) (A.Forkcipher.maps away.now)) (state self.now memory.now)).rows
-            ≡ (ledger_of (both (H.Forkcipher.maps home.now) (A.Forkcipher.maps away.now)) (state other.now others.now)).rows) }
-    {
-        for row in 0..self.rows.get() {
-            if !self.same_row(home, away, memory, other, others, row) {
+        // The others by index: tried as a `zip` under `enumerate`, and the proof did not close.
+        for (row, mine) in rows.iter().enumerate() {
+            if self.open(place, row as u32, *mine) != self.open(other, row as u32, others[row]) {
                 return false;
             }
         }
         true
     }
+}
 
+impl Strip {
     // Do the two hold the same rows? At one place their bytes tell.
     fn agrees<H: Forkcipher, A: Forkcipher>(
         &self,
-        home: &H,
-        away: &A,
+        piles: &Piles<'_, H, A>,
         memory: &[u8],
         other: &Strip,
         others: &[u8],
@@ -66,40 +41,40 @@ impl Strip {
         requires memory_fits { length memory.now ≡ 16 * self.now.rows.count }
         requires others_fit { length others.now ≡ 16 * other.now.rows.count }
         ensures { SameRows
-            (both (H.Forkcipher.maps home.now) (A.Forkcipher.maps away.now))
+            (images H.maps A.maps piles.now)
             (state self.now memory.now) (state other.now others.now) result }
     {
-        if self.rows.get() != other.rows.get() {
+        if memory.len() != others.len() {
             return false;
         }
         if self.place == other.place {
             return memory == others;
         }
-        self.same_plain(home, away, memory, other, others)
+        piles.same_plain(
+            self.place,
+            self.split(memory),
+            other.place,
+            other.split(others),
+        )
     }
 
     // Do two strips under the same two piles hold the same rows?
     pub fn same_rows<H: Forkcipher, A: Forkcipher>(
         &self,
-        home: &H,
-        away: &A,
+        piles: &Piles<'_, H, A>,
         memory: &[u8],
         other: &Strip,
         others: &[u8],
     ) -> Result<bool, StripFault>
         ensures compares { Compares
-            (both (H.Forkcipher.maps home.now) (A.Forkcipher.maps away.now))
+            (images H.maps A.maps piles.now)
             self.now other.now memory.now others.now result }
         ensures law { BytesTellRows
-            (both (H.Forkcipher.maps home.now) (A.Forkcipher.maps away.now))
+            (images H.maps A.maps piles.now)
             (state self.now memory.now) (state other.now others.now) }
     {
-        if memory.len() != 16 * self.rows.get() {
-            return Err(StripFault::WrongMemory);
-        }
-        if others.len() != 16 * other.rows.get() {
-            return Err(StripFault::WrongMemory);
-        }
-        Ok(self.agrees(home, away, memory, other, others))
+        self.fits(memory.len())?;
+        other.fits(others.len())?;
+        Ok(self.agrees(piles, memory, other, others))
     }
 }

@@ -10,13 +10,10 @@ impl Strip {
     pub fn lay(number: u16, text: &[u8], memory: &mut [u8]) -> Result<Strip, StripFault>
         ensures { Lays number text.now memory.old memory.new result }
     {
-        let Some(rows) = RowCount::of_text(text.len()) else {
-            return Err(StripFault::LongText);
-        };
-        if memory.len() != 16 * rows.get() {
-            return Err(StripFault::WrongMemory);
-        }
+        let rows = RowCount::of_text(text.len()).ok_or(StripFault::LongText)?;
+        let strip = Strip::take_up(number, rows, Station::Plain, Pile::Home);
+        strip.fits(memory.len())?;
         fill(memory, text);
-        Ok(Strip::take_up(number, rows, Station::Plain, Pile::Home))
+        Ok(strip)
     }
 }

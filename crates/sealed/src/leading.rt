@@ -1,18 +1,17 @@
 // The rows of a strip go to another place.
 ghost use Rattle.std.specs.Prelude.{◌≡◌, ◌*◌, ◌<◌, length};
-ghost use Rattle.ledgers.specs.Rows.{both};
+ghost use Rattle.sealed.specs.Piles.{images};
 ghost use Rattle.sealed.specs.Serving.{Starts, all_moved, leads, row_moved};
 
-use crate::Strip;
-use crate::serving::{Way, led};
+use crate::ways::Way;
+use crate::{Piles, Strip};
 use interfaces::Forkcipher;
 
 impl Strip {
     // Takes a row along a way.
     fn lead_row<H: Forkcipher, A: Forkcipher>(
         &self,
-        home: &H,
-        away: &A,
+        piles: &Piles<'_, H, A>,
         memory: &mut [u8],
         way: Way,
         row: usize,
@@ -21,29 +20,30 @@ impl Strip {
         requires row_within { row < self.now.rows.count }
         requires starts { Starts way self.now.place.station }
         ensures { memory.new ≡ row_moved
-            (both (H.Forkcipher.maps home.now) (A.Forkcipher.maps away.now))
+            (images H.maps A.maps piles.now)
             self.now (leads way self.now.place) row memory.old }
     {
         let block = self.row(memory, row);
-        self.set_row(memory, row, led(home, away, self.place, way, row, block));
+        self.set_row(memory, row, piles.led(self.place, way, row as u32, block));
     }
 
     // Takes every row along a way.
     pub(crate) fn lead<H: Forkcipher, A: Forkcipher>(
         &self,
-        home: &H,
-        away: &A,
+        piles: &Piles<'_, H, A>,
         memory: &mut [u8],
         way: Way,
     )
         requires memory_fits { length memory.old ≡ 16 * self.now.rows.count }
         requires starts { Starts way self.now.place.station }
         ensures { memory.new ≡ all_moved
-            (both (H.Forkcipher.maps home.now) (A.Forkcipher.maps away.now))
+            (images H.maps A.maps piles.now)
             self.now (leads way self.now.place) memory.old }
     {
+        // By index: tried over `as_chunks_mut`, of which the library does not say what the slice ends as, so the proof
+        // did not close.
         for row in 0..self.rows.get() {
-            self.lead_row(home, away, memory, way, row);
+            self.lead_row(piles, memory, way, row);
         }
     }
 }

@@ -1,46 +1,49 @@
 // Rows in the caller's memory.
-ghost use Rattle.std.specs.Prelude.{◌≡◌, ◌-◌, ◌*◌, ◌<◌, ◌≤◌, [], ◌++◌, length, replicate, slice_index_or, slice_set};
-ghost use Rattle.ledgers.specs.Rows.{both, cells, flat};
-ghost use Rattle.sealed.specs.Calls.{row_of};
+ghost use Rattle.std.specs.Prelude.{◌≡◌, ◌-◌, ◌*◌, ◌<◌, ◌≤◌, ◌++◌, [], IfOk, length, replicate, slice_index_or, slice_set};
+ghost use Rattle.std.specs.List.{concat};
+ghost use Rattle.strips.specs.declared.fault.StripFault.TheVariants.{WrongMemory};
+ghost use Rattle.ledgers.specs.Rows.{cells};
+ghost use Rattle.sealed.specs.Calls.{Checks};
 
 use crate::Strip;
-use crate::serving::open;
-use interfaces::Forkcipher;
+use strips::StripFault;
 
 impl Strip {
+    // The rows in memory that fits.
+    pub(crate) fn split<'m>(&self, memory: &'m [u8]) -> &'m [[u8; 16]]
+        requires { length memory.now ≡ 16 * self.now.rows.count }
+        ensures count { length result.now ≡ self.now.rows.count }
+        ensures rows { result.now ≡ cells self.now.rows.count memory.now }
+    {
+        let (rows, _) = memory.as_chunks::<16>();
+        rows
+    }
+
+    // The rows in memory, which has to be sixteen bytes for each.
+    pub(crate) fn rows_in<'m>(&self, memory: &'m [u8]) -> Result<&'m [[u8; 16]], StripFault>
+        ensures checks { Checks (length memory.now ≡ 16 * self.now.rows.count) WrongMemory result }
+        ensures count { IfOk result (λ rows. length rows.now ≡ self.now.rows.count) }
+        ensures rows { IfOk result (λ rows. rows.now ≡ cells self.now.rows.count memory.now) }
+    {
+        self.fits(memory.len())?;
+        Ok(self.split(memory))
+    }
+
     // A row as it is stored.
     pub(crate) fn row(&self, memory: &[u8], row: usize) -> [u8; 16]
         requires memory_fits { length memory.now ≡ 16 * self.now.rows.count }
         requires row_within { row < self.now.rows.count }
         ensures { result ≡ slice_index_or (cells self.now.rows.count memory.now) row [] }
     {
-        let mut block = [0; 16];
-        block.copy_from_slice(&memory[16 * row..16 * row + 16]);
-        block
+        self.split(memory)[row]
     }
 
-    // A row's plain block.
-    pub(crate) fn plain<H: Forkcipher, A: Forkcipher>(
-        &self,
-        home: &H,
-        away: &A,
-        memory: &[u8],
-        row: usize,
-    ) -> [u8; 16]
-        requires memory_fits { length memory.now ≡ 16 * self.now.rows.count }
-        requires row_within { row < self.now.rows.count }
-        ensures { result ≡ row_of
-            (both (H.Forkcipher.maps home.now) (A.Forkcipher.maps away.now))
-            self.now memory.now row }
-    {
-        open(home, away, self.place, row, self.row(memory, row))
-    }
-
-    // Stores a block in a row.
+    // Stores a block in a row. That memory fits is asked here and of what calls this: tried as a field of a struct that
+    // holds the memory, and the proof did not close, since what the memory ends as then had no name.
     pub(crate) fn set_row(&self, memory: &mut [u8], row: usize, block: [u8; 16])
         requires memory_fits { length memory.old ≡ 16 * self.now.rows.count }
         requires row_within { row < self.now.rows.count }
-        ensures { memory.new ≡ flat (slice_set (cells self.now.rows.count memory.old) row block) }
+        ensures { memory.new ≡ concat (slice_set (cells self.now.rows.count memory.old) row block) }
     {
         memory[16 * row..16 * row + 16].copy_from_slice(&block);
     }

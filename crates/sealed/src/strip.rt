@@ -1,8 +1,9 @@
-// A strip's record; its bytes lie in the caller's memory.
+// What is kept of a strip.
 ghost use Rattle.std.specs.Prelude.{◌≡◌};
 
 use strips::{Pile, Place, RowCount, Station};
 
+// A strip's record; its bytes lie in the caller's memory.
 #[derive(Clone, Copy)]
 pub struct Strip {
     pub(crate) rows: RowCount,
@@ -24,12 +25,14 @@ impl Strip {
         }
     }
 
+    // How many rows it has.
     pub fn rows(&self) -> RowCount
         ensures { result ≡ self.now.rows }
     {
         self.rows
     }
 
+    // Where it is.
     pub fn place(&self) -> Place
         ensures { result ≡ self.now.place }
     {

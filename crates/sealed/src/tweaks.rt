@@ -1,15 +1,13 @@
 // The tweaks of a strip's rows and of its header.
-ghost use Rattle.std.specs.Prelude.{◌≡◌, ◌<◌};
-ghost use Rattle.strips.specs.Rows.{most_rows};
+ghost use Rattle.std.specs.Prelude.{◌≡◌};
 ghost use Rattle.ledgers.specs.Rows.{row_tweak, header_tweak};
 
 use interfaces::bytes::big_endian;
 
-pub(crate) fn row_tweak(number: u16, row: usize) -> [u8; 8]
-    requires { row < most_rows }
+pub(crate) fn row_tweak(number: u16, row: u32) -> [u8; 8]
     ensures { result ≡ row_tweak number row }
 {
-    big_endian((u64::from(number) << 29) + row as u64)
+    big_endian((u64::from(number) << 29) + u64::from(row))
 }
 
 pub(crate) fn header_tweak(number: u16) -> [u8; 8]

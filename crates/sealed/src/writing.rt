@@ -1,10 +1,9 @@
 // A row is written.
-ghost use Rattle.ledgers.specs.Rows.{both};
 ghost use Rattle.ledgers.specs.declared.call.Act.TheVariants.{Write};
 ghost use Rattle.sealed.specs.Calls.{Does};
+ghost use Rattle.sealed.specs.Piles.{images};
 
-use crate::Strip;
-use crate::serving::store;
+use crate::{Piles, Strip};
 use interfaces::Forkcipher;
 use strips::StripFault;
 
@@ -12,23 +11,18 @@ impl Strip {
     // Replaces a row's plain block.
     pub fn write<H: Forkcipher, A: Forkcipher>(
         &self,
-        home: &H,
-        away: &A,
+        piles: &Piles<'_, H, A>,
         memory: &mut [u8],
         row: usize,
         block: [u8; 16],
     ) -> Result<(), StripFault>
         ensures { Does
-            (both (H.Forkcipher.maps home.now) (A.Forkcipher.maps away.now))
+            (images H.maps A.maps piles.now)
             (Write row block) self.now self.now memory.old memory.new result }
     {
-        if memory.len() != 16 * self.rows.get() {
-            return Err(StripFault::WrongMemory);
-        }
-        if row >= self.rows.get() {
-            return Err(StripFault::NoSuchRow(row));
-        }
-        self.set_row(memory, row, store(home, away, self.place, row, block));
+        self.fits(memory.len())?;
+        self.has(row)?;
+        self.set_row(memory, row, piles.store(self.place, row as u32, block));
         Ok(())
     }
 }

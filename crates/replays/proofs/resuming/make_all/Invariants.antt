@@ -1,11 +1,13 @@
-use Rattle.std.proofs.Common.{◌≡◌}
-use Rattle.ledgers.specs.Rows.{both}
 use Rattle.ledgers.proofs.Lists.{Going}
 use Rattle.sealed.specs.Calls.{state}
+use Rattle.sealed.specs.Piles.{images}
+use Rattle.replays.specs.Ready.{Untouched}
 use Rattle.replays.proofs.resuming.make_all.Given as goal
 
 abbrev pub invariant-loop-i : goal.invariant-loop-i
 invariant-loop-i g l =
-    let piles = both (g.H.Forkcipher.maps l.home) (g.A.Forkcipher.maps l.away) in
-    Going piles l.calls (state l.initial.strip l.initial.memory) (state l.strip l.memory) l.i l.answers
-    × (l.spare ≡ l.initial.spare) × (l.blank ≡ l.initial.blank)
+    let piles = images g.H.Forkcipher.maps g.A.Forkcipher.maps l.piles in
+    record {
+      going : Going piles l.calls (state l.initial.strip l.initial.memory) (state l.strip l.memory) l.i l.answers;
+      room : Untouched l.initial.room l.room;
+    }
