@@ -50,8 +50,8 @@ impl KeySet {
         ensures rows { map (λ k. k.bytes) result.rows ≡ schedule key }
     {
         let mut rows = [RoundKey { bytes: key }; 17];
-        for i in 0..16 {
-            let bytes = next_key(rows[i].bytes, ROUND_CONSTANTS[i]);
+        for (i, constant) in ROUND_CONSTANTS.iter().enumerate() {
+            let bytes = next_key(rows[i].bytes, *constant);
             rows[i + 1] = RoundKey { bytes };
         }
         KeySet { rows }
