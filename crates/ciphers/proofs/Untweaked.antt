@@ -9,22 +9,6 @@ use Rattle.ciphers.specs.Tweaks.{tweaked_key, zero_tweak}
 use Rattle.ciphers.specs.Laws.{kiasu_undone, kiasu_redone}
 use Rattle.ciphers.specs.Subkeys.{tweaked_key_zero, zero_tweak_bytes}
 
--- one round more of the loops
-pub aes_rounds_more : (key : List ℕ) (i : ℕ) (s : List ℕ) → 1 ≤ i → aes_rounds key (i + 1 - 1) s ≡ add_round_key (full_round (aes_rounds key (i - 1) s)) (round_key key i)
-unfolding aes_rounds
-aes_rounds_more key i s h =
-    let e : i + 1 - 1 ≡ suc (i - 1) = omega arith in
-    let f : suc (i - 1) ≡ i = omega arith in
-    ap (λ n. aes_rounds key n s) e ∙ ap (λ n. add_round_key (full_round (aes_rounds key (i - 1) s)) (round_key key n)) f
-
-pub inv_aes_rounds_more : (key : List ℕ) (n : ℕ) (s : List ℕ) → 0 < n
-    → inv_aes_rounds key n s ≡ inv_aes_rounds key (n - 1) (inv_mix_columns (add_round_key (inv_sub_bytes (inv_shift_rows s)) (round_key key n)))
-unfolding inv_aes_rounds
-inv_aes_rounds_more key n s h =
-    let e : n ≡ suc (n - 1) = omega arith in
-    ap (λ m. inv_aes_rounds key m s) e
-    ∙ ap (λ m. inv_aes_rounds key (n - 1) (inv_mix_columns (add_round_key (inv_sub_bytes (inv_shift_rows s)) (round_key key m)))) (sym e)
-
 module _ (key : List ℕ) (bk : Bytes 16 key) where
   same : (i : ℕ) → round_key key i ≡ tweaked_key key zero_tweak i
   same i = sym (tweaked_key_zero key bk i)
