@@ -1,6 +1,6 @@
 -- What folds over the rows of a key set make, by the numbers of the rounds.
 -- Assumes nothing.
-use Rattle.std.proofs.Common.{◌≡◌, ℕ, zero, suc, ◌+◌, ◌<◌, ◌≤◌, List, [], ◌∷◌, ◌++◌, length, get_or, take, drop, reverse, map, sym, refl, ap, ap₂, ◌∙◌, add-one, arith}
+use Rattle.std.proofs.Common.{◌≡◌, ℕ, zero, suc, ◌+◌, ◌<◌, ◌≤◌, List, [], ◌∷◌, ◌++◌, length, get_or, take, drop, reverse, sym, refl, ap, ap₂, ◌∙◌, add-one, arith}
 use Rattle.std.specs.List.{fold}
 use Rattle.std.proofs.lemmas.List.{get_or-map, get_or-drop, length-map, length-drop, take_more, reverse-append}
 use Rattle.std.proofs.lemmas.List.Sums.{fold_push}
@@ -8,7 +8,7 @@ use Rattle.aes.specs.declared.keys.KeySet.{KeySet}
 use Rattle.aes.specs.declared.keys.RoundKey.{RoundKey}
 use Rattle.aes.specs.Block.{xored, add_round_key, full_round, inv_full_round, inv_sub_bytes, inv_shift_rows, inv_mix_columns}
 use Rattle.aes.specs.KeySets.{rows_of, key_of}
-use Rattle.aes.specs.Keys.{round_key, schedule, row}
+use Rattle.aes.specs.Keys.{round_key, schedule}
 use Rattle.aes.proofs.Schedule.{scheduled_row}
 use Rattle.ciphers.specs.Aes.{aes_rounds, inv_aes_rounds}
 use Rattle.interfaces.specs.declared.sides.Side.{Side}

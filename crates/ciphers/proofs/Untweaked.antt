@@ -1,7 +1,7 @@
 -- Under the zero tweak KIASU-BC is AES-128, forward and back, and so AES-128's two ways undo each other.
 -- Assumes nothing.
-use Rattle.std.proofs.Common.{◌≡◌, ℕ, zero, suc, ◌+◌, ◌-◌, ◌<◌, ◌≤◌, List, sym, refl, ap, ◌∙◌, ap₂, arith}
-use Rattle.aes.specs.Block.{Bytes, add_round_key, sub_bytes, inv_sub_bytes, shift_rows, inv_shift_rows, mix_columns, inv_mix_columns, full_round}
+use Rattle.std.proofs.Common.{◌≡◌, ℕ, zero, suc, List, sym, refl, ap, ◌∙◌, ap₂}
+use Rattle.aes.specs.Block.{Bytes, add_round_key, sub_bytes, inv_sub_bytes, shift_rows, inv_shift_rows, mix_columns, inv_mix_columns}
 use Rattle.aes.specs.Keys.{round_key}
 use Rattle.ciphers.specs.Aes.{aes_rounds, aes, inv_aes_rounds, inv_aes}
 use Rattle.ciphers.specs.Kiasu.{kiasu_rounds, kiasu, inv_kiasu_rounds, inv_kiasu}

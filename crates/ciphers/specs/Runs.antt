@@ -1,8 +1,8 @@
 -- Runs of rounds: their steps, and that either way undoes the other.
 -- Assumes nothing.
-use Rattle.std.specs.Prelude.{◌≡◌, ℕ, zero, suc, ◌+◌, ◌-◌, ◌<◌, List}
+use Rattle.std.specs.Prelude.{◌≡◌, ℕ, zero, suc, ◌+◌, List}
 use Rattle.std.proofs.Math.Path.{refl, ap}
-use Rattle.std.proofs.Common.{sym, ◌∙◌, zero-add, add-one, arith}
+use Rattle.std.proofs.Common.{sym, ◌∙◌, zero-add}
 use Rattle.aes.specs.Block.{Bytes, add_round_key, full_round, inv_full_round}
 use Rattle.aes.proofs.Blocks.{xored_bytes, xored_twice, full_round_bytes, inv_full_round_bytes, inv_full_round-full_round, full_round-inv_full_round}
 use Rattle.ciphers.specs.Forks.{run, inv_run}

@@ -1,4 +1,4 @@
-use Rattle.std.proofs.Common.{ap, ◌∙◌, rules, lit≤}
+use Rattle.std.proofs.Common.{ap, ◌∙◌, rules}
 use Rattle.aes.specs.KeySets.{key_of}
 use Rattle.interfaces.specs.declared.sides.Side.TheVariants.{Left, Right}
 use Rattle.ciphers.specs.Forks.{branch}
