@@ -14,7 +14,7 @@ use aes::block::{
 use aes::keys::{KeySet, RoundKey};
 
 // KiasuBc and ForkAes have the same field and the same `new`. A struct for all three would take a mark for which it is, as
-// `Cipher::<Kiasu> { keys: KeySet::new(key), mark: Kiasu }`, and be no plainer.
+// `Cipher { keys, mark: Kiasu }`, and be no plainer.
 #[derive(Clone, Copy)]
 pub struct Aes128 {
     keys: KeySet,
