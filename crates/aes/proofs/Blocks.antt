@@ -4,7 +4,7 @@ use Rattle.std.proofs.Common.{◌≡◌, ℕ, ◌+◌, ◌*◌, ◌/◌, ◌%◌
 use Rattle.std.specs.Int.Bits.{bit_xor, xor_lt}
 use Rattle.aes.specs.Field.{s_box, inv_s_box}
 use Rattle.aes.specs.Block.{Bytes, at, listed, xored, sub_bytes, inv_sub_bytes, shift_rows, inv_shift_rows, column, quarter, columns, mix, inv_mix, full_round, inv_full_round}
-use Rattle.aes.proofs.Bytes.{s_box_byte, inv_s_box_byte, inv_s_box-s_box, s_box-inv_s_box}
+use Rattle.aes.proofs.AllBytes.{s_box_byte, inv_s_box_byte, inv_s_box-s_box, s_box-inv_s_box}
 use Rattle.aes.proofs.Matrices.{Undoes, column_bytes, column_undone, inv_mix-mix, mix-inv_mix}
 use Rattle.aes.proofs.Linear.{xor_twice}
 use Rattle.aes.proofs.Table.{entry, same_table, relisted, listed_bytes}

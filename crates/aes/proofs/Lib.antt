@@ -1,7 +1,6 @@
 pub mod Table
 pub mod Linear
-pub mod Bytes
+pub mod AllBytes
 pub mod Matrices
 pub mod Blocks
-pub mod Loops
 pub mod Schedule

@@ -1,22 +1,23 @@
 -- The round keys of a key, and the loop that makes them.
 -- Assumes nothing.
-use Rattle.std.proofs.Common.{◌≡◌, ℕ, zero, suc, ◌+◌, ◌-◌, ◌<◌, ◌≤◌, List, [], map, length, get_or, set, sym, refl, ap, ◌∙◌, subst, ⊎_elim, add-one, arith}
-use Rattle.std.specs.Int.Bits.{bit_xor, xor_lt}
+use Rattle.std.proofs.Common.{◌≡◌, ℕ, zero, suc, ◌+◌, ◌<◌, ◌≤◌, List, [], ◌∷◌, map, length, get_or, set, sym, refl, ap, ◌∙◌, subst, ⊎_elim, add-one, arith}
+use Rattle.std.specs.Int.Bits.{bit_xor, xor_assoc, xor_lt}
 use Rattle.std.proofs.lemmas.List.{length-set, length-map, map-set, get_or-map, get_or-set_same, get_or-set_other}
 use Rattle.std.proofs.lemmas.Bool.{cases_eq}
 use Rattle.std.proofs.lemmas.List.FromFn.{fill_by_all}
 use Rattle.aes.specs.Field.{doubled, s_box}
-use Rattle.aes.specs.Block.{Bytes, at, listed}
+use Rattle.aes.specs.Block.{Bytes, at, listed, xored, quarter, joined, four}
 use Rattle.aes.specs.Keys.{round_constants, Doubling, key_byte, next_key, round_key, schedule, row, Scheduled}
-use Rattle.aes.proofs.Bytes.{s_box_byte}
+use Rattle.aes.proofs.AllBytes.{s_box_byte}
 use Rattle.aes.proofs.Table.{entry, every, all_small, listed_bytes}
 
-pub key_byte_more : (k : List ℕ) (c j : ℕ) → 4 ≤ j → key_byte k c j ≡ bit_xor (at k j) (key_byte k c (j - 4))
-unfolding key_byte
-key_byte_more k c j h =
-    let e : suc (suc (suc (suc (j - 4)))) ≡ j = omega arith in
-    let f : j - 4 + 4 ≡ j = omega arith in
-    sym (ap (key_byte k c) e) ∙ ap (λ m. bit_xor (at k m) (key_byte k c (j - 4))) f
+-- the round key after k, column by column: s has S of the bytes of the last one
+pub next_key_made : (k : List ℕ) (n : ℕ) (s a b c d r : List ℕ) → s ≡ listed 4 (λ i. s_box (at (quarter k 3) i))
+    → a ≡ xored 4 (quarter k 0) (bit_xor (at s 1) n ∷ at s 2 ∷ at s 3 ∷ at s 0 ∷ []) → b ≡ xored 4 (quarter k 1) a
+    → c ≡ xored 4 (quarter k 2) b → d ≡ xored 4 (quarter k 3) c → r ≡ joined (four a b c d) → r ≡ next_key k n
+unfolding xored next_key key_byte
+next_key_made k n s a b c d r es ea eb ec ed er =
+    simp (er, ed, ec, eb, ea, es, xor_assoc (at k 0) (s_box (at k 13)) n)
 
 -- the round keys up to i are made
 abbrev pub Keyed : List ℕ → List (List ℕ) → ℕ → Type 0

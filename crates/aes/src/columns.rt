@@ -31,7 +31,7 @@ pub fn mix_column(v: [u8; 4]) -> [u8; 4]
     ensures { Step mix_column inv_mix_column v result }
 {
     let [a, b, c, d] = v;
-    let [a2, b2, c2, d2] = [double(a), double(b), double(c), double(d)];
+    let [a2, b2, c2, d2] = v.map(double);
     [
         (a2 ^ (b ^ b2)) ^ (c ^ d),
         (a ^ b2) ^ ((c ^ c2) ^ d),

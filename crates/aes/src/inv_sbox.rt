@@ -21,7 +21,8 @@ const INV_SBOX: [u8; 256] = [
     0x17, 0x2B, 0x04, 0x7E, 0xBA, 0x77, 0xD6, 0x26, 0xE1, 0x69, 0x14, 0x63, 0x55, 0x21, 0x0C, 0x7D,
 ];
 
-// The byte that S takes to b.
+// The byte that S takes to b. It differs from `sub_byte` in its table alone: the project's rules give a constant table of
+// 256 entries to each.
 pub fn inv_sub_byte(b: u8) -> u8
     ensures { Step inv_s_box s_box b result }
 {

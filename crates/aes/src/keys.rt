@@ -2,6 +2,8 @@
 ghost use Rattle.std.specs.Prelude.{◌≡◌, map};
 ghost use Rattle.aes.specs.Keys.{round_constants, Doubling, next_key, row, schedule, Scheduled};
 
+use crate::block::{columns, join};
+use crate::bytes::xor;
 use crate::sbox::sub_byte;
 
 const ROUND_CONSTANTS: [u8; 16] = [
@@ -28,19 +30,17 @@ pub fn round_constants() -> [u8; 16]
     ROUND_CONSTANTS
 }
 
-// The round key after `key`, where `c` is its constant.
-fn next_key(key: [u8; 16], c: u8) -> [u8; 16]
-    ensures { result ≡ next_key key c }
+// The round key after `key`, column by column.
+fn next_key(key: [u8; 16], constant: u8) -> [u8; 16]
+    ensures { result ≡ next_key key constant }
 {
-    let mut r = key;
-    r[0] = key[0] ^ sub_byte(key[13]) ^ c;
-    r[1] = key[1] ^ sub_byte(key[14]);
-    r[2] = key[2] ^ sub_byte(key[15]);
-    r[3] = key[3] ^ sub_byte(key[12]);
-    for j in 4..16 {
-        r[j] = key[j] ^ r[j - 4];
-    }
-    r
+    let [a, b, c, d] = columns(key);
+    let [e, f, g, h] = d.map(sub_byte);
+    let a = xor(a, [f ^ constant, g, h, e]);
+    let b = xor(b, a);
+    let c = xor(c, b);
+    let d = xor(d, c);
+    join(a, b, c, d)
 }
 
 impl KeySet {
@@ -50,9 +50,8 @@ impl KeySet {
         ensures rows { map (λ k. k.bytes) result.rows ≡ schedule key }
     {
         let mut rows = [RoundKey { bytes: key }; 17];
-        for i in 0..16 {
-            let before = rows[i].bytes;
-            let bytes = next_key(before, ROUND_CONSTANTS[i]);
+        for (i, constant) in ROUND_CONSTANTS.iter().enumerate() {
+            let bytes = next_key(rows[i].bytes, *constant);
             rows[i + 1] = RoundKey { bytes };
         }
         KeySet { rows }

@@ -2,6 +2,7 @@
 #![tactic(auto)]
 
 pub mod block;
+pub mod bytes;
 pub mod columns;
 pub mod inv_sbox;
 pub mod keys;

@@ -10,7 +10,7 @@ use ciphers::forkaes::ForkAes;
 use ciphers::kiasu::KiasuBc;
 use interfaces::Side;
 use std::io;
-use tables::{AES, FORK, KIASU, ROUND_KEYS};
+use tables::{AES, ROUND_KEYS, TWEAKED};
 use tally::Tally;
 
 fn aes128(rt: &HostRuntime) -> io::Result<()> {
@@ -18,79 +18,57 @@ fn aes128(rt: &HostRuntime) -> io::Result<()> {
     let mut back = Tally::new();
     for v in AES.iter() {
         let cipher = Aes128::new(v.key.to_be_bytes());
-        forward.compare(
-            u128::from_be_bytes(cipher.encrypt(v.block.to_be_bytes())),
-            v.image,
-        );
-        back.compare(
-            u128::from_be_bytes(cipher.decrypt(v.image.to_be_bytes())),
-            v.block,
-        );
+        forward.compare(cipher.encrypt(v.block.to_be_bytes()), v.image);
+        back.compare(cipher.decrypt(v.image.to_be_bytes()), v.block);
     }
-    forward.show(rt, "AES-128 forward")?;
-    back.show(rt, "AES-128 back")
+    println!(rt; "AES-128 forward: {forward}")?;
+    println!(rt; "AES-128 back: {back}")
 }
 
 fn round_keys(rt: &HostRuntime) -> io::Result<()> {
     let mut rows = Tally::new();
     let keys = KeySet::new(ROUND_KEYS[0].to_be_bytes());
-    for i in 0..11 {
-        rows.compare(u128::from_be_bytes(keys.rows[i].bytes), ROUND_KEYS[i]);
+    for (row, wanted) in keys.rows.iter().zip(ROUND_KEYS.iter()) {
+        rows.compare(row.bytes, *wanted);
     }
-    rows.show(rt, "AES-128 round keys")
+    println!(rt; "AES-128 round keys: {rows}")
 }
 
 fn kiasu(rt: &HostRuntime) -> io::Result<()> {
     let mut forward = Tally::new();
     let mut back = Tally::new();
-    for v in KIASU.iter() {
+    for v in TWEAKED.iter() {
         let cipher = KiasuBc::new(v.key.to_be_bytes());
         let tweak = v.tweak.to_be_bytes();
-        forward.compare(
-            u128::from_be_bytes(cipher.encrypt(tweak, v.block.to_be_bytes())),
-            v.image,
-        );
-        back.compare(
-            u128::from_be_bytes(cipher.decrypt(tweak, v.image.to_be_bytes())),
-            v.block,
-        );
+        forward.compare(cipher.encrypt(tweak, v.block.to_be_bytes()), v.kiasu);
+        back.compare(cipher.decrypt(tweak, v.kiasu.to_be_bytes()), v.block);
     }
-    forward.show(rt, "KIASU-BC forward")?;
-    back.show(rt, "KIASU-BC back")
+    println!(rt; "KIASU-BC forward: {forward}")?;
+    println!(rt; "KIASU-BC back: {back}")
 }
 
 fn forkaes(rt: &HostRuntime) -> io::Result<()> {
     let mut forward = Tally::new();
     let mut back = Tally::new();
     let mut across = Tally::new();
-    for v in FORK.iter() {
+    for v in TWEAKED.iter() {
         let cipher = ForkAes::new(v.key.to_be_bytes());
         let tweak = v.tweak.to_be_bytes();
         let (left, right) = cipher.fork(tweak, v.block.to_be_bytes());
-        forward.compare(u128::from_be_bytes(left), v.left);
-        forward.compare(u128::from_be_bytes(right), v.right);
-        let left = v.left.to_be_bytes();
-        let right = v.right.to_be_bytes();
-        back.compare(
-            u128::from_be_bytes(cipher.back(Side::Left, tweak, left)),
-            v.block,
-        );
-        back.compare(
-            u128::from_be_bytes(cipher.back(Side::Right, tweak, right)),
-            v.block,
-        );
-        across.compare(
-            u128::from_be_bytes(cipher.cross(Side::Left, tweak, left)),
-            v.right,
-        );
-        across.compare(
-            u128::from_be_bytes(cipher.cross(Side::Right, tweak, right)),
-            v.left,
-        );
+        forward.compare(left, v.left);
+        forward.compare(right, v.right);
+        for (side, image, other) in [
+            (Side::Left, v.left, v.right),
+            (Side::Right, v.right, v.left),
+        ] {
+            let image = image.to_be_bytes();
+            back.compare(cipher.back(side, tweak, image), v.block);
+            across.compare(cipher.cross(side, tweak, image), other);
+        }
     }
-    forward.show(rt, "ForkAES forward")?;
-    back.show(rt, "ForkAES back")?;
-    across.show(rt, "ForkAES across")
+    println!(rt; "ForkAES forward: {forward}")?;
+    println!(rt; "ForkAES back: {back}")?;
+    println!(rt; "ForkAES across: {across}")
 }
 
 fn main(rt: HostRuntime) -> io::Result<()> {

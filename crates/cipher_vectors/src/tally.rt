@@ -1,8 +1,9 @@
 // How many of the answers of one kind agreed with the vectors, and the first that did not.
 ghost use Rattle.std.specs.Prelude.{◌≡◌, None, ◌==◌};
+ghost use Rattle.std.specs.Int.{w128, from_be_bytes};
 ghost use Rattle.cipher_vectors.specs.Counts.{more, more_if, first_off};
 
-use std::io;
+use std::fmt;
 
 #[derive(Drop)]
 pub struct Tally {
@@ -22,25 +23,27 @@ impl Tally {
         }
     }
 
-    // One more answer, and what it should be.
-    pub(crate) fn compare(&mut self, got: u128, wanted: u128)
+    // One more answer, and the number whose bytes it should be.
+    pub(crate) fn compare(&mut self, answer: [u8; 16], wanted: u128)
         ensures tried { self.new.tried ≡ more self.old.tried }
-        ensures agreed { self.new.agreed ≡ more_if (got == wanted) self.old.agreed }
-        ensures off { self.new.off ≡ first_off (got == wanted) self.old.tried self.old.off }
+        ensures agreed { self.new.agreed ≡ more_if (from_be_bytes w128 answer == wanted) self.old.agreed }
+        ensures off { self.new.off ≡ first_off (from_be_bytes w128 answer == wanted) self.old.tried self.old.off }
     {
-        if got == wanted {
+        if u128::from_be_bytes(answer) == wanted {
             self.agreed = self.agreed.saturating_add(1);
-        } else if let None = self.off {
-            self.off = Some(self.tried);
+        } else {
+            self.off = self.off.or(Some(self.tried));
         }
         self.tried = self.tried.saturating_add(1);
     }
+}
 
-    pub(crate) fn show(&self, rt: &HostRuntime, name: &str) -> io::Result<()> {
-        print!(rt; "{name}: {} of {} agree", self.agreed, self.tried)?;
+impl fmt::Display for Tally {
+    fn fmt<W: fmt::Write>(&self, f: &mut fmt::Formatter<W>) -> fmt::Result {
+        write!(f, "{} of {} agree", self.agreed, self.tried)?;
         if let Some(n) = self.off {
-            print!(rt; ", the first that does not is number {n}")?;
+            write!(f, ", the first that does not is number {n}")?;
         }
-        println!(rt; "")
+        Ok(())
     }
 }

@@ -1,1 +1,2 @@
 pub mod Untweaked
+pub mod Rows

@@ -1,29 +1,13 @@
 -- Under the zero tweak KIASU-BC is AES-128, forward and back, and so AES-128's two ways undo each other.
 -- Assumes nothing.
-use Rattle.std.proofs.Common.{◌≡◌, ℕ, zero, suc, ◌+◌, ◌-◌, ◌<◌, ◌≤◌, List, sym, refl, ap, ◌∙◌, ap₂, arith}
-use Rattle.aes.specs.Block.{Bytes, add_round_key, sub_bytes, inv_sub_bytes, shift_rows, inv_shift_rows, mix_columns, inv_mix_columns, full_round}
+use Rattle.std.proofs.Common.{◌≡◌, ℕ, zero, suc, List, sym, refl, ap, ◌∙◌, ap₂}
+use Rattle.aes.specs.Block.{Bytes, add_round_key, sub_bytes, inv_sub_bytes, shift_rows, inv_shift_rows, mix_columns, inv_mix_columns}
 use Rattle.aes.specs.Keys.{round_key}
 use Rattle.ciphers.specs.Aes.{aes_rounds, aes, inv_aes_rounds, inv_aes}
 use Rattle.ciphers.specs.Kiasu.{kiasu_rounds, kiasu, inv_kiasu_rounds, inv_kiasu}
 use Rattle.ciphers.specs.Tweaks.{tweaked_key, zero_tweak}
 use Rattle.ciphers.specs.Laws.{kiasu_undone, kiasu_redone}
 use Rattle.ciphers.specs.Subkeys.{tweaked_key_zero, zero_tweak_bytes}
-
--- one round more of the loops
-pub aes_rounds_more : (key : List ℕ) (i : ℕ) (s : List ℕ) → 1 ≤ i → aes_rounds key (i + 1 - 1) s ≡ add_round_key (full_round (aes_rounds key (i - 1) s)) (round_key key i)
-unfolding aes_rounds
-aes_rounds_more key i s h =
-    let e : i + 1 - 1 ≡ suc (i - 1) = omega arith in
-    let f : suc (i - 1) ≡ i = omega arith in
-    ap (λ n. aes_rounds key n s) e ∙ ap (λ n. add_round_key (full_round (aes_rounds key (i - 1) s)) (round_key key n)) f
-
-pub inv_aes_rounds_more : (key : List ℕ) (n : ℕ) (s : List ℕ) → 0 < n
-    → inv_aes_rounds key n s ≡ inv_aes_rounds key (n - 1) (inv_mix_columns (add_round_key (inv_sub_bytes (inv_shift_rows s)) (round_key key n)))
-unfolding inv_aes_rounds
-inv_aes_rounds_more key n s h =
-    let e : n ≡ suc (n - 1) = omega arith in
-    ap (λ m. inv_aes_rounds key m s) e
-    ∙ ap (λ m. inv_aes_rounds key (n - 1) (inv_mix_columns (add_round_key (inv_sub_bytes (inv_shift_rows s)) (round_key key m)))) (sym e)
 
 module _ (key : List ℕ) (bk : Bytes 16 key) where
   same : (i : ℕ) → round_key key i ≡ tweaked_key key zero_tweak i

@@ -5,3 +5,4 @@ pub mod Tweaks
 pub mod Laws
 pub mod Runs
 pub mod Subkeys
+pub mod Rounds

@@ -1,18 +1,8 @@
 // Arrays of bytes: their XOR, and numbers in them.
 ghost use Rattle.std.specs.Prelude.{◌≡◌};
-ghost use Rattle.aes.specs.Block.{xored};
 ghost use Rattle.interfaces.specs.Numbers.{big_endian};
 
-// The XOR of two arrays.
-pub fn xor<const N: usize>(a: [u8; N], b: [u8; N]) -> [u8; N]
-    ensures { result ≡ xored N a.entry b.entry }
-{
-    let mut r = a;
-    for j in 0..N {
-        r[j] = a[j] ^ b[j];
-    }
-    r
-}
+pub use aes::bytes::xor;
 
 // A number in eight bytes, most significant first.
 pub fn big_endian(x: u64) -> [u8; 8]

@@ -1,7 +1,6 @@
 // A pad before the lower cipher and one after it.
 ghost use Rattle.std.specs.Prelude.{◌≡◌};
-ghost use Rattle.aes.specs.Block.{Bytes, xored};
-ghost use Rattle.interfaces.specs.Sides.{other};
+ghost use Rattle.aes.specs.Block.{Bytes};
 ghost use Rattle.layers.specs.Layers.{padded};
 ghost use Rattle.interfaces.specs.Inverses.{after, xor_inverse};
 
@@ -26,19 +25,6 @@ impl<C> Pad<C> {
     }
 }
 
-// Across the lower cipher, between two images with the pad q in them.
-fn across<C: Forkcipher>(
-    lower: &C,
-    q: [u8; 16],
-    side: Side,
-    tweak: [u8; 8],
-    image: [u8; 16],
-) -> [u8; 16]
-    ensures { result ≡ xored 16 ((C.Forkcipher.maps lower.now).image (other side) tweak ((C.Forkcipher.maps lower.now).origin side tweak (xored 16 image q))) q }
-{
-    xor(lower.cross(side, tweak, xor(image, q)), q)
-}
-
 impl<C: Forkcipher> Forkcipher for Pad<C> {
     ghost maps = { λ c. padded c.p c.q (C.Forkcipher.maps c.lower) };
 
@@ -56,6 +42,6 @@ impl<C: Forkcipher> Forkcipher for Pad<C> {
     }
 
     fn cross(&self, side: Side, tweak: [u8; 8], image: [u8; 16]) -> [u8; 16] {
-        across(&self.lower, self.q, side, tweak, image)
+        xor(self.lower.cross(side, tweak, xor(image, self.q)), self.q)
     }
 }

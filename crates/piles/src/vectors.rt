@@ -1,4 +1,5 @@
-// Vectors that an independent model of KIASU-BC and ForkAES made, as hexadecimal figures.
+// Vectors that an independent model of KIASU-BC and ForkAES made, as hexadecimal figures. The program `cipher_vectors` has
+// the same ones: these tests cannot see a program, and a crate for six rows would be no plainer.
 
 pub struct Vector {
     pub key: u128,

@@ -3,7 +3,7 @@ ghost use Rattle.aes.specs.KeySets.{key_of};
 ghost use Rattle.ciphers.specs.Kiasu.{kiasu_map};
 ghost use Rattle.ciphers.specs.Laws.{kiasu_inverse};
 
-use crate::kiasu::{KiasuBc, cipher, inv_cipher};
+use crate::kiasu::KiasuBc;
 use interfaces::TweakableCipher;
 
 impl TweakableCipher for KiasuBc {
@@ -12,10 +12,10 @@ impl TweakableCipher for KiasuBc {
     ghost lawful = { λ c. kiasu_inverse (key_of c.keys) c.keys.scheduled.0 };
 
     fn encrypt(&self, tweak: [u8; 8], block: [u8; 16]) -> [u8; 16] {
-        cipher(&self.keys, tweak, block)
+        KiasuBc::encrypt(self, tweak, block)
     }
 
     fn decrypt(&self, tweak: [u8; 8], block: [u8; 16]) -> [u8; 16] {
-        inv_cipher(&self.keys, tweak, block)
+        KiasuBc::decrypt(self, tweak, block)
     }
 }

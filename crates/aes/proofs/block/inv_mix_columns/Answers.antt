@@ -10,5 +10,5 @@ unfolding columns
 returns c =
     let s = c.args.s in
     step inv_mix_columns mix_columns s _
-    (simp (c.join.ensures, c.inv_mix_column.ensures.made, c.inv_mix_column-2.ensures.made, c.inv_mix_column-3.ensures.made, c.inv_mix_column-4.ensures.made))
+    (simp (c.columns.ensures, c.join.ensures, c.inv_mix_column.ensures.made, c.inv_mix_column-2.ensures.made, c.inv_mix_column-3.ensures.made, c.inv_mix_column-4.ensures.made))
     (columns_undone mix inv_mix mix-inv_mix s (search rules, λ j. search rules))

@@ -10,5 +10,5 @@ unfolding columns
 returns c =
     let s = c.args.s in
     step mix_columns inv_mix_columns s _
-    (simp (c.join.ensures, c.mix_column.ensures.made, c.mix_column-2.ensures.made, c.mix_column-3.ensures.made, c.mix_column-4.ensures.made))
+    (simp (c.columns.ensures, c.join.ensures, c.mix_column.ensures.made, c.mix_column-2.ensures.made, c.mix_column-3.ensures.made, c.mix_column-4.ensures.made))
     (columns_undone inv_mix mix inv_mix-mix s (search rules, λ j. search rules))

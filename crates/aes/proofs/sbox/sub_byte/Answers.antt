@@ -1,7 +1,7 @@
 -- The table's entry is S of its place, by one test over the whole table.
 use Rattle.std.proofs.Common.{rules}
 use Rattle.aes.specs.Field.{doubled, partial, product, power, inverse, s_box, inv_s_box}
-use Rattle.aes.proofs.Bytes.{inv_s_box-s_box}
+use Rattle.aes.proofs.AllBytes.{inv_s_box-s_box}
 use Rattle.aes.proofs.Table.{entry, step}
 use Rattle.aes.proofs.sbox.sub_byte.Goals as goal
 
