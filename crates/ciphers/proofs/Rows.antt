@@ -1,6 +1,6 @@
 -- What folds over the rows of a key set make, by the numbers of the rounds.
 -- Assumes nothing.
-use Rattle.std.proofs.Common.{◌≡◌, ℕ, zero, suc, ◌+◌, ◌<◌, ◌≤◌, List, [], ◌∷◌, ◌++◌, length, get_or, take, drop, reverse, sym, refl, ap, ap₂, ◌∙◌, add-one, arith}
+use Rattle.std.proofs.Common.{◌≡◌, ℕ, zero, suc, ◌+◌, ◌-◌, ◌<◌, ◌≤◌, List, [], ◌∷◌, ◌++◌, length, get_or, take, drop, reverse, sym, refl, ap, ap₂, subst, ◌∙◌, add-one, arith}
 use Rattle.std.specs.List.{fold}
 use Rattle.std.proofs.lemmas.List.{get_or-map, get_or-drop, length-map, length-drop, take_more, reverse-append}
 use Rattle.std.proofs.lemmas.List.Sums.{fold_push}
@@ -14,6 +14,7 @@ use Rattle.ciphers.specs.Aes.{aes_rounds, inv_aes_rounds}
 use Rattle.interfaces.specs.declared.sides.Side.{Side}
 use Rattle.interfaces.specs.declared.sides.Side.TheVariants.{Left, Right}
 use Rattle.ciphers.specs.Forks.{run, inv_run, start}
+use Rattle.ciphers.specs.Runs.{run_more, inv_run_more}
 use Rattle.ciphers.specs.Rounds.{subkeys, rounds, inv_rounds, plain_rounds, inv_plain_rounds}
 
 abbrev bytes : RoundKey → List ℕ
@@ -69,17 +70,24 @@ module _ (keys : KeySet) where
     unfolding run
     rounds_run zero s l = refl
     rounds_run (suc n) s l =
-        ap (λ m. rounds t (part i m) s) (sym (add-one n))
-        ∙ fold_next (λ a b. full_round (add_round_key a (xored 16 b t))) i n s (omega arith)
-        ∙ ap (λ x. full_round (add_round_key x (subkeys keys t (i + n)))) (rounds_run n s (omega arith))
+        let ks = subkeys keys t in
+        subst (λ m. rounds t (part i m) s ≡ run ks i m s) (add-one n)
+        (fold_next (λ a b. full_round (add_round_key a (xored 16 b t))) i n s (omega arith)
+         ∙ ap (λ x. full_round (add_round_key x (ks (i + n)))) (rounds_run n s (omega arith))
+         ∙ sym (run_more ks i n s))
 
     pub inv_rounds_run : (n : ℕ) (s : List ℕ) → i + n ≤ 17 → inv_rounds t (part i n) s ≡ inv_run (subkeys keys t) i n s
     unfolding inv_run
     inv_rounds_run zero s l = refl
     inv_rounds_run (suc n) s l =
+        let ks = subkeys keys t in
+        let undone : ℕ → List ℕ = λ m. inv_run ks i m (add_round_key (inv_full_round s) (ks (i + m))) in
+        let last : n ≡ suc n - 1 = omega arith in
         ap (λ m. inv_rounds t (part i m) s) (sym (add-one n))
         ∙ fold_back (λ a b. add_round_key (inv_full_round a) (xored 16 b t)) i n s (omega arith)
-        ∙ inv_rounds_run n (add_round_key (inv_full_round s) (subkeys keys t (i + n))) (omega arith)
+        ∙ inv_rounds_run n (add_round_key (inv_full_round s) (ks (i + n))) (omega arith)
+        ∙ ap undone last
+        ∙ sym (inv_run_more ks i (suc n) s (omega arith))
 
   -- the rounds of AES-128 begin with row 1
   pub aes_rounds_run : (n : ℕ) (s : List ℕ) → n ≤ 16 → plain_rounds (part 1 n) s ≡ aes_rounds (key_of keys) n s

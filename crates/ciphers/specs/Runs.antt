@@ -1,8 +1,8 @@
 -- Runs of rounds: their steps, and that either way undoes the other.
 -- Assumes nothing.
-use Rattle.std.specs.Prelude.{◌≡◌, ℕ, zero, suc, ◌+◌, List}
+use Rattle.std.specs.Prelude.{◌≡◌, ℕ, zero, suc, ◌+◌, ◌-◌, ◌<◌, List}
 use Rattle.std.proofs.Math.Path.{refl, ap}
-use Rattle.std.proofs.Common.{sym, ◌∙◌, zero-add}
+use Rattle.std.proofs.Common.{sym, ◌∙◌, zero-add, add-one, arith}
 use Rattle.aes.specs.Block.{Bytes, add_round_key, full_round, inv_full_round}
 use Rattle.aes.proofs.Blocks.{xored_bytes, xored_twice, full_round_bytes, inv_full_round_bytes, inv_full_round-full_round, full_round-inv_full_round}
 use Rattle.ciphers.specs.Forks.{run, inv_run}
@@ -10,6 +10,15 @@ use Rattle.ciphers.specs.Kiasu.{kiasu_rounds, inv_kiasu_rounds}
 use Rattle.ciphers.specs.Subkeys.{Small}
 
 module _ (ks : ℕ → List ℕ) where
+  pub run_more : (i n : ℕ) (s : List ℕ) → run ks i (n + 1) s ≡ full_round (add_round_key (run ks i n s) (ks (i + n)))
+  unfolding run
+  run_more i n s = ap (λ m. run ks i m s) (add-one n)
+
+  pub inv_run_more : (i n : ℕ) (s : List ℕ) → 0 < n
+      → inv_run ks i n s ≡ inv_run ks i (n - 1) (add_round_key (inv_full_round s) (ks (i + (n - 1))))
+  unfolding inv_run
+  inv_run_more i n s h = let e : n ≡ suc (n - 1) = omega arith in ap (λ m. inv_run ks i m s) e
+
   -- the rounds of KIASU-BC, regrouped: each subkey goes before a full round, and one is left
   pub kiasu_rounds_run : (n : ℕ) (s : List ℕ) → kiasu_rounds ks n (add_round_key s (ks 0)) ≡ add_round_key (run ks 0 n s) (ks n)
   unfolding kiasu_rounds run

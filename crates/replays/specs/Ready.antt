@@ -17,10 +17,12 @@ use Rattle.replays.specs.declared.ready.Unready.TheVariants.{Refused, Answers, N
 abbrev pub lengths : (memory : List ℕ) → Room → List Answer → Lengths
 lengths m r x = record { memory = length m; spare = length r.spare.now; blank = length r.blank.now; answers = length x }
 
--- what is at hand is afterwards what it was
+-- what is at hand is afterwards what it was: the same two slices, of the same bytes
 pub record Untouched (r r' : Room) : Type 0 where
   pub spare : r'.spare.now ≡ r.spare.now
   pub blank : r'.blank.now ≡ r.blank.now
+  pub same_spare : r'.spare.ghost_name ≡ r.spare.ghost_name
+  pub same_blank : r'.blank.ghost_name ≡ r.blank.ghost_name
 
 -- the length of the answer place that an act names; one without names none, and 16 bytes are always at hand
 abbrev pub place_named : Act → ℕ

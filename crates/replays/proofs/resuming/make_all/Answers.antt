@@ -27,6 +27,8 @@ loop-i-preserved g c =
       room = record {
         spare = c.hand-answer.ensures.room.spare ∙ c.loop-i.invariant.room.spare;
         blank = c.hand-answer.ensures.room.blank ∙ c.loop-i.invariant.room.blank;
+        same_spare = c.hand-answer.ensures.room.same_spare ∙ c.loop-i.invariant.room.same_spare;
+        same_blank = c.hand-answer.ensures.room.same_blank ∙ c.loop-i.invariant.room.same_blank;
       };
     }
 
