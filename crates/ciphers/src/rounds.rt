@@ -31,7 +31,6 @@ impl Tweak {
         add_round_key(s, add_round_key(key.bytes, self.bytes))
     }
 
-    #[tactic(auto, using(std::proofs::lemmas::List::Sums::fold_more))]
     // With each of the keys in turn: add it, then a full round.
     pub(crate) fn rounds(self, keys: &[RoundKey], block: [u8; 16]) -> [u8; 16]
         ensures { result ≡ rounds self.bytes keys.now block }
