@@ -23,6 +23,7 @@ pub struct KeySet {
 }
 
 // The constants of rounds 1 to 16.
+#[tactic(auto, using(crate::proofs::Schedule::doubling))]
 pub fn round_constants() -> [u8; 16]
     ensures figures { result ≡ round_constants }
     ensures doubling { Doubling result }

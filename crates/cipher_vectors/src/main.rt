@@ -34,6 +34,8 @@ fn round_keys(rt: &HostRuntime) -> io::Result<()> {
     println!(rt; "AES-128 round keys: {rows}")
 }
 
+// As `aes128`, whose cipher takes no tweak and so lacks the interface's calls: one function for both would take the two calls
+// as closures, `|b| cipher.encrypt(tweak, b)` and `|b| cipher.decrypt(tweak, b)`, and be no plainer.
 fn kiasu(rt: &HostRuntime) -> io::Result<()> {
     let mut forward = Tally::new();
     let mut back = Tally::new();

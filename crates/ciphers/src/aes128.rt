@@ -21,7 +21,6 @@ pub struct Aes128 {
 }
 
 // A round with each of the keys in turn, which ends with the key.
-#[tactic(auto, using(std::proofs::lemmas::List::Sums::fold_more))]
 fn rounds(keys: &[RoundKey], block: [u8; 16]) -> [u8; 16]
     ensures { result ≡ plain_rounds keys.now block }
 {

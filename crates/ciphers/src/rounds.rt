@@ -8,7 +8,7 @@ use aes::block::{add_round_key, full_round, inv_full_round};
 use aes::keys::RoundKey;
 
 // A tweak, at the places of a round key that it goes into. Its rounds and those of AES-128 are four loops, each with its
-// step: by `fold` over the step, `Aes128::decrypt` takes 412 ns in place of 297.
+// step: by `fold` over the step, `Aes128::decrypt` takes 331 ns in place of 291.
 #[derive(Clone, Copy)]
 pub(crate) struct Tweak {
     bytes: [u8; 16],
@@ -31,7 +31,6 @@ impl Tweak {
         add_round_key(s, add_round_key(key.bytes, self.bytes))
     }
 
-    #[tactic(auto, using(std::proofs::lemmas::List::Sums::fold_more))]
     // With each of the keys in turn: add it, then a full round.
     pub(crate) fn rounds(self, keys: &[RoundKey], block: [u8; 16]) -> [u8; 16]
         ensures { result ≡ rounds self.bytes keys.now block }

@@ -2,6 +2,7 @@
 ghost use Rattle.std.specs.Prelude.{◌≡◌};
 ghost use Rattle.interfaces.specs.Maps.{Map, Inverse};
 
+// Tweak and block stand side by side in every call, as arrays by value: the project's rules give them so.
 pub trait TweakableCipher {
     ghost map: { Self → Map };
 

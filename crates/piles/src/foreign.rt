@@ -16,6 +16,7 @@ pub struct Shifted {
 }
 
 // The tweak twice.
+#[tactic(auto, unfolding(crate::specs::Shifts::repeated))]
 fn repeat(tweak: [u8; 8]) -> [u8; 16]
     ensures { result ≡ repeated tweak }
 {
