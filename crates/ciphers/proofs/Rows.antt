@@ -73,8 +73,8 @@ module _ (keys : KeySet) where
         let ks = subkeys keys t in
         subst (λ m. rounds t (part i m) s ≡ run ks i m s) (add-one n)
         (fold_next (λ a b. full_round (add_round_key a (xored 16 b t))) i n s (omega arith)
-         ∙ ap (λ x. full_round (add_round_key x (ks (i + n)))) (rounds_run n s (omega arith))
-         ∙ sym (run_more ks i n s))
+        ∙ ap (λ x. full_round (add_round_key x (ks (i + n)))) (rounds_run n s (omega arith))
+        ∙ sym (run_more ks i n s))
 
     pub inv_rounds_run : (n : ℕ) (s : List ℕ) → i + n ≤ 17 → inv_rounds t (part i n) s ≡ inv_run (subkeys keys t) i n s
     unfolding inv_run
