@@ -9,7 +9,8 @@ pub enum Change {
     Transfer(Pile),
 }
 
-// What a call does. Of an answer place only its length is told.
+// What a call does. Of an answer place only its length is told. A list of calls is data, which is fed to the ledger and
+// struck out, so what makes a call matches its act; a list of closures could be made, and not be told apart.
 #[derive(Clone, Copy, PartialEq, Eq, Debug)]
 pub enum Act {
     // The row, and its new block.

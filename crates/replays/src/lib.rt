@@ -1,4 +1,5 @@
 // Lists of calls on one strip, and the law over every such list.
+// Piles, strip, memory and room stand side by side in what makes the calls, since the strip's calls take them so.
 #![tactic(auto)]
 
 mod making;

@@ -38,8 +38,9 @@ impl Strip {
         self.split(memory)[row]
     }
 
-    // Stores a block in a row. That memory fits is asked here and of what calls this: tried as a field of a struct that
-    // holds the memory, and the proof did not close, since what the memory ends as then had no name.
+    // Stores a block in a row. That memory fits is asked here and of what calls this: a struct over the memory could carry
+    // it, and each of its calls would have to promise instead that it holds the same slice as before, so be no plainer.
+    // That the row is there, `has` has found; a type for such a row would hold of one strip alone.
     pub(crate) fn set_row(&self, memory: &mut [u8], row: usize, block: [u8; 16])
         requires memory_fits { length memory.old ≡ 16 * self.now.rows.count }
         requires row_within { row < self.now.rows.count }
