@@ -19,9 +19,8 @@ impl<H: Forkcipher, A: Forkcipher> Piles<'_, H, A> {
             opened_rows (images H.maps A.maps self.now) place rows.now
             ≡ opened_rows (images H.maps A.maps self.now) other others.now) }
     {
-        // The others by index: tried as a `zip` under `enumerate`, and the proof did not close.
-        for (row, mine) in rows.iter().enumerate() {
-            if self.open(place, row as u32, *mine) != self.open(other, row as u32, others[row]) {
+        for (row, (mine, theirs)) in rows.iter().zip(others).enumerate() {
+            if self.open(place, row as u32, *mine) != self.open(other, row as u32, *theirs) {
                 return false;
             }
         }
