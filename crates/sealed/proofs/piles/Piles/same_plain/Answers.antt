@@ -1,4 +1,4 @@
-use Rattle.std.proofs.Common.{rules, below_more, subst, ◌≡◌, ℕ, ◌<◌, ◌+◌, ◌++◌, ◌∷◌, [], List, get_or, true, min, not, length, sym, refl, ap, ap₂, ◌∙◌, arith}
+use Rattle.std.proofs.Common.{rules, below_more, subst, ◌≡◌, ◌<◌, [], not, length, sym, refl, ap, ap₂, ◌∙◌, arith}
 use Rattle.std.proofs.lemmas.Bool.{true≢false}
 use Rattle.std.proofs.lemmas.Bool.Decides.{Decides-eqb}
 use Rattle.std.proofs.lemmas.List.{length_push}
