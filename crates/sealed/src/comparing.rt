@@ -19,12 +19,9 @@ impl<H: Forkcipher, A: Forkcipher> Piles<'_, H, A> {
             opened_rows (images H.maps A.maps self.now) place rows.now
             ≡ opened_rows (images H.maps A.maps self.now) other others.now) }
     {
-        for (row, (mine, theirs)) in rows.iter().zip(others).enumerate() {
-            if self.open(place, row as u32, *mine) != self.open(other, row as u32, *theirs) {
-                return false;
-            }
-        }
-        true
+        rows.iter().zip(others).enumerate().all(|(row, (mine, theirs))| {
+            self.open(place, row as u32, *mine) == self.open(other, row as u32, *theirs)
+        })
     }
 }
 
