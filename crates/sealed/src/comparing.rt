@@ -19,13 +19,9 @@ impl<H: Forkcipher, A: Forkcipher> Piles<'_, H, A> {
             opened_rows (images H.maps A.maps self.now) place rows.now
             ≡ opened_rows (images H.maps A.maps self.now) other others.now) }
     {
-        // The others by index: tried as a `zip` under `enumerate`, and the proof did not close.
-        for (row, mine) in rows.iter().enumerate() {
-            if self.open(place, row as u32, *mine) != self.open(other, row as u32, others[row]) {
-                return false;
-            }
-        }
-        true
+        rows.iter().zip(others).enumerate().all(|(row, (mine, theirs))| {
+            self.open(place, row as u32, *mine) == self.open(other, row as u32, *theirs)
+        })
     }
 }
 
