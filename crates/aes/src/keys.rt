@@ -51,6 +51,7 @@ impl KeySet {
         ensures rows { map (λ k. k.bytes) result.rows ≡ schedule key }
     {
         let mut rows = [RoundKey { bytes: key }; 17];
+        // Row i makes row i + 1: with no index the row before would be a second value beside the rows, and no plainer.
         for (i, constant) in ROUND_CONSTANTS.iter().enumerate() {
             let bytes = next_key(rows[i].bytes, *constant);
             rows[i + 1] = RoundKey { bytes };

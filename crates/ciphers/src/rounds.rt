@@ -8,7 +8,7 @@ use aes::block::{add_round_key, full_round, inv_full_round};
 use aes::keys::RoundKey;
 
 // A tweak, at the places of a round key that it goes into. Its rounds and those of AES-128 are four loops, each with its
-// step: by `fold` over the step, `Aes128::decrypt` takes 331 ns in place of 291.
+// step: one loop for all would take the step as a closure over tweak and key, which is what each loop says, and no plainer.
 #[derive(Clone, Copy)]
 pub(crate) struct Tweak {
     bytes: [u8; 16],

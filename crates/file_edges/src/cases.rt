@@ -2,7 +2,8 @@
 
 use files::FileFault;
 
-// What a refusal tells: its number, the entries checked before it, and its byte.
+// What a refusal tells: its number, the entries checked before it, and its byte. Figures and no `FileFault`, since that a
+// fault tells those of docs/FORMATS.md is what is tried here.
 #[derive(Clone, Copy, PartialEq, Eq, Debug)]
 pub struct Refusal(pub u8, pub usize, pub usize);
 
@@ -27,7 +28,7 @@ const SAMPLE: [u8; 128] = *b"\
     \x00\x09\x01\x01\x00\x00\x00\x02\x00\x00\x00\x10\x00\x00\x00\x00stamp of strip 9\
     \x00\x00\x00\x30\x00\x02\x01\x00\x00\x00\x00\x03FNCP";
 
-// The first byte as it is.
+// The first byte as it is, for a case of one edit or none: the cases are of one shape.
 pub const SAME: Edit = (0, b'o');
 
 // The sample with two edits made.

@@ -68,15 +68,19 @@ fn inputs(rt: &HostRuntime) -> anyhow::Result<usize> {
 // The parts of the sample.
 fn opened(rt: &HostRuntime) -> anyhow::Result<usize> {
     let sample = edited(SAME, SAME);
-    check(&sample)?;
+    let Ok(()) = check(&sample) else {
+        return Ok(0);
+    };
     let file = StripFile::new(&sample);
-    let record = file.entry(1)?;
-    let last = record.number == 9
-        && record.rows == 2
-        && record.start == 16
-        && record.stamp == *b"stamp of strip 9";
-    let place = record.station == Station::Left && record.pile == Pile::Away;
-    let body = file.body(1)? == b"and two of the  second, all here".as_slice();
+    let last = file.entry(1).is_ok_and(|r| r.number == 9
+        && r.rows == 2
+        && r.start == 16
+        && r.stamp == *b"stamp of strip 9");
+    let place = file
+        .entry(1)
+        .is_ok_and(|r| r.station == Station::Left && r.pile == Pile::Away);
+    let body = file.body(1).is_ok_and(|bytes| bytes
+        == b"and two of the  second, all here".as_slice());
     println!(rt; "entry 1: fields {last}, place {place}, body {body}")?;
     let mut tally = Tally::new(rt);
     tally.expect("entry 2", file.entry(2), Err(Refusal(13, 2, 0)))?;

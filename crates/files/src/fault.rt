@@ -32,7 +32,7 @@ pub enum FileFault {
 }
 
 impl FileFault {
-    // Each written out: `as` gives no number where a case holds values.
+    // The project's rules give each its number, and `as` gives none where a case holds values.
     pub fn number(self) -> u8
         ensures { result ≡ (told self).number }
     {

@@ -13,7 +13,7 @@ pub struct Record {
     pub number: u16,
     pub station: Station,
     pub pile: Pile,
-    // A number and no `RowCount`: the record that any 32 bytes write is a definition, and only some have few enough rows.
+    // A number: with a `RowCount` its definition would have to say what a record of too many rows is, and be no plainer.
     pub rows: u32,
     // The byte where the body begins.
     pub start: u32,

@@ -39,7 +39,8 @@ fn lays(rt: &HostRuntime) -> io::Result<()> {
     lay(rt, &TEXT, &mut [0; OWN])
 }
 
-// All calls by one replay: the answers, and how the strip ends.
+// All calls by one replay: the answers, and how the strip ends. Handle, piles and memory stand side by side here and below,
+// since the calls that take them are three.
 fn at_once<H: Forkcipher, A: Forkcipher>(
     rt: &HostRuntime,
     piles: &Piles<'_, H, A>,

@@ -10,7 +10,7 @@ pub struct Crossed<C> {
     lower: C,
 }
 
-// The three layers' `new` promise the lower cipher each. A trait for it would say that line and the same three again.
+// The three layers' `new` each promise the lower cipher. A trait would repeat that clause in each impl, and be no plainer.
 impl<C> Crossed<C> {
     pub fn new(lower: C) -> Crossed<C>
         ensures { result.lower ≡ lower }

@@ -38,7 +38,8 @@ impl Page<'_> {
         self.put(b"\n");
     }
 
-    // A refusal's line, behind the words for what was refused.
+    // A refusal's line, behind the words for what was refused. Three figures and no struct: an input that is too long has a
+    // line and no `FileFault`, and a struct for the two would be made here to be taken apart.
     #[tactic(auto, using(crate::proofs::Listed::room))]
     pub(crate) fn put_fault(&mut self, words: &[u8], number: u8, entry: usize, byte: usize)
         requires { HasRoom self.old (length words.now + longest_fault) }

@@ -9,6 +9,9 @@ use files::{StripFile, check};
 // The longest input that is looked at.
 const MOST_INPUT: usize = 65_536;
 
+// The number of an input that is too long; the program's one refusal of its own, so it has no enum.
+const LONG_INPUT: u8 = 16;
+
 impl Page<'_> {
     fn put_file(&mut self, file: StripFile<'_>)
         requires { HasRoom self.old 16384 }
@@ -28,7 +31,7 @@ impl Page<'_> {
         ensures { Adds self.old (listing input.now) self.new }
     {
         if input.len() > MOST_INPUT {
-            return self.put_fault(b"fault list ", 16, 0, 0);
+            return self.put_fault(b"fault list ", LONG_INPUT, 0, 0);
         }
         match check(input) {
             Ok(()) => self.put_file(StripFile::new(input)),

@@ -1,5 +1,6 @@
 // Lists of calls on one strip, and the law over every such list.
-// Piles, strip, memory and room stand side by side in what makes the calls, since the strip's calls take them so.
+// Piles, strip, memory and room stand side by side in what makes the calls: by the project's rules the caller hands piles
+// and memory to every call of a strip.
 #![tactic(auto)]
 
 mod making;

@@ -64,20 +64,18 @@ fn has_room(blank: usize, len: usize) -> bool
     len == 16 || len <= blank
 }
 
-fn is_served(rows: RowCount, spare: usize, blank: usize, call: Call) -> bool
-    ensures { result ≡ served rows.count spare blank call }
+fn is_served(rows: RowCount, held: Lengths, call: Call) -> bool
+    ensures { result ≡ served rows.count held.spare held.blank call }
 {
-    (call.memory == 16 * rows.get() || call.memory <= spare)
-        && has_room(blank, named_place(call.act))
+    (call.memory == 16 * rows.get() || call.memory <= held.spare)
+        && has_room(held.blank, named_place(call.act))
 }
 
 // The first call that is not served.
-fn first_unserved(rows: RowCount, spare: usize, blank: usize, calls: &[Call]) -> Option<usize>
-    ensures { result ≡ first_unserved rows.count spare blank calls.now }
+fn first_unserved(rows: RowCount, held: Lengths, calls: &[Call]) -> Option<usize>
+    ensures { result ≡ first_unserved rows.count held.spare held.blank calls.now }
 {
-    calls
-        .iter()
-        .position(|call| !is_served(rows, spare, blank, *call))
+    calls.iter().position(|call| !is_served(rows, held, *call))
 }
 
 // Is a list on a strip of so many rows begun?
@@ -90,7 +88,7 @@ pub(crate) fn check(rows: RowCount, held: Lengths, calls: &[Call]) -> Result<(),
     if held.answers != calls.len() {
         return Err(Unready::Answers);
     }
-    match first_unserved(rows, held.spare, held.blank, calls) {
+    match first_unserved(rows, held, calls) {
         Some(call) => Err(Unready::NoRoom(call)),
         None => Ok(()),
     }

@@ -28,13 +28,24 @@ fn header_block(rows: RowCount) -> [u8; 16]
 impl<H: Forkcipher, A: Forkcipher> Piles<'_, H, A> {
     // Both images under a pile's cipher, left first. `fork`, `back` and `cross` each match on the pile: home and away may
     // be of two types, and the gate lets no function hand out the one that is meant as a `dyn`.
-    pub(crate) fn fork(&self, pile: Pile, tweak: [u8; 8], block: [u8; 16]) -> ([u8; 16], [u8; 16])
+    fn fork(&self, pile: Pile, tweak: [u8; 8], block: [u8; 16]) -> ([u8; 16], [u8; 16])
         ensures left { result.0 ≡ (images H.maps A.maps self.now pile).image Left tweak block }
         ensures right { result.1 ≡ (images H.maps A.maps self.now pile).image Right tweak block }
     {
         match pile {
             Pile::Home => self.home.fork(tweak, block),
             Pile::Away => self.away.fork(tweak, block),
+        }
+    }
+
+    // The image on one side.
+    pub(crate) fn image(&self, pile: Pile, side: Side, tweak: [u8; 8], block: [u8; 16]) -> [u8; 16]
+        ensures { result ≡ (images H.maps A.maps self.now pile).image side tweak block }
+    {
+        let (left, right) = self.fork(pile, tweak, block);
+        match side {
+            Side::Left => left,
+            Side::Right => right,
         }
     }
 
@@ -65,8 +76,8 @@ impl<H: Forkcipher, A: Forkcipher> Piles<'_, H, A> {
         let tweak = row_tweak(place.number, row);
         match place.station {
             Station::Plain => block,
-            Station::Left => self.fork(place.pile, tweak, block).0,
-            Station::Right => self.fork(place.pile, tweak, block).1,
+            Station::Left => self.image(place.pile, Side::Left, tweak, block),
+            Station::Right => self.image(place.pile, Side::Right, tweak, block),
         }
     }
 
@@ -87,14 +98,13 @@ impl<H: Forkcipher, A: Forkcipher> Piles<'_, H, A> {
         ensures { result ≡ head_of (images H.maps A.maps self.now place.pile) place.number rows.count }
     {
         let tweak = header_tweak(place.number);
-        self.fork(place.pile, tweak, header_block(rows)).0
+        self.image(place.pile, Side::Left, tweak, header_block(rows))
     }
 
     // A plain row's right image.
     pub(crate) fn right(&self, place: Place, row: u32, block: [u8; 16]) -> [u8; 16]
         ensures { result ≡ right_of (images H.maps A.maps self.now place.pile) place.number row block }
     {
-        let (_, right) = self.fork(place.pile, row_tweak(place.number, row), block);
-        right
+        self.image(place.pile, Side::Right, row_tweak(place.number, row), block)
     }
 }

@@ -39,8 +39,8 @@ impl Strip {
     }
 
     // Stores a block in a row. That memory fits is asked here and of what calls this: a struct over the memory could carry
-    // it, and each of its calls would have to promise instead that it holds the same slice as before, so be no plainer.
-    // That the row is there, `has` has found; a type for such a row would hold of one strip alone.
+    // it, as a page of a listing does, but would be made in each call from the strip and its memory, and each of its own
+    // calls would promise the same slice and count: no plainer. A type for a row that is there would hold of one strip.
     pub(crate) fn set_row(&self, memory: &mut [u8], row: usize, block: [u8; 16])
         requires memory_fits { length memory.old ≡ 16 * self.now.rows.count }
         requires row_within { row < self.now.rows.count }

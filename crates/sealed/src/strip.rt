@@ -4,7 +4,7 @@ ghost use Rattle.std.specs.Prelude.{◌≡◌};
 use strips::{Pile, Place, RowCount, Station};
 
 // A strip's record; its bytes lie in the caller's memory.
-#[derive(Clone, Copy)]
+#[derive(Clone, Copy, PartialEq, Eq, Debug)]
 pub struct Strip {
     pub(crate) rows: RowCount,
     pub(crate) place: Place,

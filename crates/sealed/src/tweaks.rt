@@ -4,6 +4,7 @@ ghost use Rattle.ledgers.specs.Rows.{row_tweak, header_tweak};
 
 use interfaces::bytes::big_endian;
 
+// Two sums: one function for both would be handed the use, and have to ask that it is no other number than 0 and 1.
 pub(crate) fn row_tweak(number: u16, row: u32) -> [u8; 8]
     ensures { result ≡ row_tweak number row }
 {

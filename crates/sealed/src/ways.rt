@@ -22,15 +22,15 @@ pub(crate) enum Way {
 }
 
 impl<H: Forkcipher, A: Forkcipher> Piles<'_, H, A> {
-    // A row that is stored at a place, as it is stored where the way leads.
+    // A row that is stored at a place, as it is stored where the way leads. That the way starts at the place is asked here
+    // and of the loop over the rows: a way does not know the place, so no fact of its type could say it.
     pub(crate) fn led(&self, place: Place, way: Way, row: u32, block: [u8; 16]) -> [u8; 16]
         requires { Starts way place.station }
         ensures { result ≡ restored (images H.maps A.maps self.now) place (leads way place) row block }
     {
         let tweak = row_tweak(place.number, row);
         match way {
-            Way::Fork(Side::Left) => self.fork(place.pile, tweak, block).0,
-            Way::Fork(Side::Right) => self.fork(place.pile, tweak, block).1,
+            Way::Fork(side) => self.image(place.pile, side, tweak, block),
             Way::Back(side) => self.back(place.pile, side, tweak, block),
             Way::Cross(side) => self.cross(place.pile, side, tweak, block),
             Way::Anew(to) => self.store(to, row, self.open(place, row, block)),

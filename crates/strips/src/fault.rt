@@ -18,7 +18,7 @@ pub enum StripFault {
 }
 
 impl StripFault {
-    // Each written out: `as` gives no number where a case holds a value.
+    // The project's rules give each its number, and `as` gives none where a case holds a value.
     pub fn number(self) -> u8
         ensures { result ≡ (told self).number }
     {

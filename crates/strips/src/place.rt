@@ -16,7 +16,7 @@ pub enum Pile {
 }
 
 // All that decides how a strip's rows are stored.
-#[derive(Clone, Copy, PartialEq, Eq)]
+#[derive(Clone, Copy, PartialEq, Eq, Debug)]
 pub struct Place {
     pub number: u16,
     pub station: Station,
