@@ -27,7 +27,8 @@ pub(crate) fn make_all<H: Forkcipher, A: Forkcipher>(
         calls.now (state strip.old memory.old) (state strip.new memory.new) answers.new }
     ensures room { Untouched room.old room.new }
 {
-    // The answers by index: tried as `zip` with `iter_mut`, and the proof did not close.
+    // The answers by index: tried as a `zip` of `answers.iter_mut()` and the calls, either way round, and the proof did
+    // not close: after such a loop it knows of the answers only how many there are.
     for (i, call) in calls.iter().enumerate() {
         let answer = hand(piles, strip, memory, room, *call);
         answers[i] = answer;

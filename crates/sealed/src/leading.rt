@@ -40,8 +40,8 @@ impl Strip {
             (images H.maps A.maps piles.now)
             self.now (leads way self.now.place) memory.old }
     {
-        // By index: tried over `as_chunks_mut`, of which the library does not say what the slice ends as, so the proof
-        // did not close.
+        // By index: tried over `as_chunks_mut`, `chunks_mut` and `chunks_exact_mut`, and by `split_first_chunk_mut` in a
+        // `while let`, and the proof did not close: after such a loop it knows of the memory only how long it is.
         for row in 0..self.rows.get() {
             self.lead_row(piles, memory, way, row);
         }
