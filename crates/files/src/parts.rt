@@ -26,6 +26,22 @@ pub(crate) struct Trailer {
     pub(crate) mark: u32,
 }
 
+impl Trailer {
+    // What a trailer's bytes write.
+    fn read(trailer: &[u8; 16]) -> Trailer
+        ensures { result ≡ trailer_fields trailer.now }
+    {
+        Trailer {
+            start: u32::from_be_bytes(cut(trailer, 0)),
+            count: u16::from_be_bytes(cut(trailer, 4)),
+            edition: trailer[6],
+            spare: trailer[7],
+            total: u32::from_be_bytes(cut(trailer, 8)),
+            mark: u32::from_be_bytes(cut(trailer, 12)),
+        }
+    }
+}
+
 // A file that is long enough for a trailer, and what stands there.
 #[derive(Clone, Copy)]
 pub(crate) struct Parts<'a> {
@@ -43,14 +59,7 @@ impl<'a> Parts<'a> {
         let trailer: [u8; 16] = cut(bytes, bytes.len() - 16);
         Parts {
             bytes,
-            trailer: Trailer {
-                start: u32::from_be_bytes(cut(&trailer, 0)),
-                count: u16::from_be_bytes(cut(&trailer, 4)),
-                edition: trailer[6],
-                spare: trailer[7],
-                total: u32::from_be_bytes(cut(&trailer, 8)),
-                mark: u32::from_be_bytes(cut(&trailer, 12)),
-            },
+            trailer: Trailer::read(&trailer),
         }
     }
 
