@@ -10,8 +10,8 @@ use Rattle.strips.specs.Rows.{most_rows}
 use Rattle.std.specs.Result.{result_err, IsOk}
 use Rattle.files.specs.Checks.{faulty_field}
 use Rattle.files.specs.Faults.{sound, is_sound, answer}
-use Rattle.files.specs.Layout.{trailer, entries_start, count, most_entries, entries, entry, number, rows_before}
-use Rattle.files.specs.Records.{Reads, first_records, record_of, records}
+use Rattle.files.specs.Layout.{trailer, entries_start, count, most_entries, entries, entry, number, rows, body_start, rows_before}
+use Rattle.files.specs.Records.{first_records, record_of, records}
 use Rattle.files.specs.Sound.{EntryFits, IsStripFile}
 use Rattle.files.specs.Verdict.{refuse, ◌and_then◌, trailer_verdict, least_number, entry_verdict, entries_verdict, end_verdict, rest_verdict, verdict}
 use Rattle.files.proofs.Verdicts.{both_sound, sound_first, sound_from, rows_more}
@@ -147,8 +147,8 @@ module _ (bs : List ℕ) where
         omega (arith, ap (λ r. r.rows) here, (file_accepted.entries_fit i (omega arith)).rows_few)
 
     -- and its body ends before the entries
-    pub body_within : (i : ℕ) (r : Record) → i < entries bs → Reads (entry bs i) r → r.start + 16 * r.rows ≤ length bs
-    body_within i r lt reads =
+    pub body_within : (i : ℕ) (e : List ℕ) → i < entries bs → e ≡ entry bs i → body_start e + 16 * rows e ≤ length bs
+    body_within i e lt is =
         let n : i + 1 + (entries bs - (i + 1)) ≡ entries bs = omega arith in
         let below : rows_before bs (i + 1) ≤ rows_before bs (entries bs) = subst (λ m. rows_before bs (i + 1) ≤ rows_before bs m) n (rows_below (i + 1) (entries bs - (i + 1))) in
-        omega (arith, ap (λ x. x.start) reads.is, ap (λ x. x.rows) reads.is, (file_accepted.entries_fit i lt).body_follows, rows_more bs i, file_accepted.bodies_end, file_accepted.entries_end)
+        omega (arith, ap body_start is, ap rows is, (file_accepted.entries_fit i lt).body_follows, rows_more bs i, file_accepted.bodies_end, file_accepted.entries_end)

@@ -10,7 +10,7 @@ ghost use Rattle.files.specs.Verdict.{verdict};
 
 use crate::fault::FileFault;
 use crate::parts::Parts;
-use crate::record::Record;
+use crate::record::{Record, body_start, row_count};
 use crate::records::Records;
 
 // The bytes of a file that `check` has accepted.
@@ -48,9 +48,8 @@ impl<'a> StripFile<'a> {
     fn slot(&self, i: usize) -> Result<&'a [u8; 32], FileFault>
         ensures { Named self.now.bytes.now i (λ e. e.now ≡ entry self.now.bytes.now i) result }
     {
-        self.slots()
-            .get(i)
-            .ok_or(FileFault::NoSuchEntry { entry: i })
+        let slots = self.slots();
+        slots.get(i).ok_or(FileFault::NoSuchEntry { entry: i })
     }
 
     // Entry i's record.
@@ -68,13 +67,13 @@ impl<'a> StripFile<'a> {
         Records::of(self.slots())
     }
 
-    // Entry i's body, a part of the file.
+    // Entry i's body, a part of the file. Its entry's other fields are not looked at.
     pub fn body(&self, i: usize) -> Result<&'a [u8], FileFault>
         ensures { Named self.now.bytes.now i (λ b. b.now ≡ body self.now.bytes.now i) result }
     {
-        let record = self.entry(i)?;
-        let start = record.start as usize;
-        let len = 16 * record.rows as usize;
+        let entry = self.slot(i)?;
+        let start = body_start(entry) as usize;
+        let len = 16 * row_count(entry) as usize;
         Ok(&self.bytes[start..start + len])
     }
 }

@@ -2,6 +2,7 @@
 ghost use Rattle.std.specs.Prelude.{◌≡◌, IfOk};
 ghost use Rattle.std.specs.Result.{result_err};
 ghost use Rattle.files.specs.Checks.{faulty_field};
+ghost use Rattle.files.specs.Layout.{rows, body_start};
 ghost use Rattle.files.specs.Records.{Reads};
 
 use crate::parts::cut;
@@ -20,6 +21,20 @@ pub struct Record {
     pub stamp: [u8; 16],
 }
 
+// The row count in an entry.
+pub(crate) fn row_count(entry: &[u8; 32]) -> u32
+    ensures { result ≡ rows entry.now }
+{
+    u32::from_be_bytes(cut(entry, 4))
+}
+
+// Where the body of an entry begins.
+pub(crate) fn body_start(entry: &[u8; 32]) -> u32
+    ensures { result ≡ body_start entry.now }
+{
+    u32::from_be_bytes(cut(entry, 8))
+}
+
 impl Record {
     // The record that an entry's bytes write; else where the first of its fields that is at fault begins in them.
     pub(crate) fn read(entry: &[u8; 32]) -> Result<Record, usize>
@@ -28,7 +43,7 @@ impl Record {
     {
         let station = Station::try_from(entry[2]).map_err(|_| 2usize)?;
         let pile = Pile::try_from(entry[3]).map_err(|_| 3usize)?;
-        let rows = u32::from_be_bytes(cut(entry, 4));
+        let rows = row_count(entry);
         RowCount::new(rows as usize).ok_or(4usize)?;
         if u32::from_be_bytes(cut(entry, 12)) != 0 {
             return Err(12);
@@ -38,7 +53,7 @@ impl Record {
             station,
             pile,
             rows,
-            start: u32::from_be_bytes(cut(entry, 8)),
+            start: body_start(entry),
             stamp: cut(entry, 16),
         })
     }

@@ -1,6 +1,7 @@
 // The listing of a strip file.
+ghost use Rattle.std.specs.Prelude.{◌<◌, length, Decides};
 ghost use Rattle.files.specs.Records.{records};
-ghost use Rattle.listing.specs.Listing.{records_listing, listing, Lists};
+ghost use Rattle.listing.specs.Listing.{most_input, records_listing, listing, Lists};
 ghost use Rattle.listing.specs.Text.{HasRoom, Adds};
 
 use crate::text::Page;
@@ -11,6 +12,13 @@ const MOST_INPUT: usize = 65_536;
 
 // The number of an input that is too long; the program's one refusal of its own, so it has no enum.
 const LONG_INPUT: u8 = 16;
+
+// Is an input too long to be looked at?
+fn is_long(input: &[u8]) -> bool
+    ensures { Decides result (most_input < length input.now) }
+{
+    input.len() > MOST_INPUT
+}
 
 impl Page<'_> {
     fn put_file(&mut self, file: StripFile<'_>)
@@ -30,7 +38,7 @@ impl Page<'_> {
         requires { HasRoom self.old 16384 }
         ensures { Adds self.old (listing input.now) self.new }
     {
-        if input.len() > MOST_INPUT {
+        if is_long(input) {
             return self.put_fault(b"fault list ", LONG_INPUT, 0, 0);
         }
         match check(input) {

@@ -22,12 +22,25 @@ impl Page<'_> {
         self.used = end;
     }
 
-    // A label and then a number.
+    // A number's decimal digits. A single one, as in most numbers of short strips, needs no buffer.
+    #[inline]
+    fn put_number(&mut self, n: usize)
+        requires { HasRoom self.old (length (decimal n)) }
+        ensures { Adds self.old (decimal n) self.new }
+    {
+        if n < 10 {
+            return self.put(&[b'0' + n as u8]);
+        }
+        self.put(Buffer::new().format(n).as_bytes());
+    }
+
+    // A label and then a number. Inlined, so that each label is copied at the length that it is known to have.
+    #[inline(always)]
     pub(crate) fn put_labelled(&mut self, label: &[u8], n: usize)
         requires { HasRoom self.old (length (label.now ++ decimal n)) }
         ensures { Adds self.old (label.now ++ decimal n) self.new }
     {
         self.put(label);
-        self.put(Buffer::new().format(n).as_bytes());
+        self.put_number(n);
     }
 }
