@@ -22,7 +22,7 @@ impl Page<'_> {
         self.used = end;
     }
 
-    // A number's decimal digits. A single one, as in most numbers of short strips, needs no buffer.
+    // A number's decimal digits. A single one needs no buffer.
     #[inline]
     fn put_number(&mut self, n: usize)
         requires { HasRoom self.old (length (decimal n)) }
